@@ -1,0 +1,38 @@
+//! When a text is a name.
+ghost use Rattle.std.specs.Prelude.{◌≡◌, ◌&&◌};
+ghost use Rattle.wl_ports.specs.Name.{begins_name, continues_name, is_name};
+
+use unicode_ident::{is_xid_continue, is_xid_start};
+
+/// Whether the character may begin a name: one with the Unicode property XID_Start, or `$`.
+pub fn begins_name(ch: char) -> bool
+    ensures { result ≡ begins_name ch }
+{
+    is_xid_start(ch) || ch == '$'
+}
+
+/// Whether the character may continue a name: one with the Unicode property XID_Continue other than `_`, or `$`.
+pub fn continues_name(ch: char) -> bool
+    ensures { result ≡ continues_name ch }
+{
+    (is_xid_continue(ch) && ch != '_') || ch == '$'
+}
+
+/// Whether the text is a name, as of a symbol or a pattern variable.
+pub fn is_name(text: &str) -> bool
+    ensures { result ≡ is_name text.now }
+{
+    let mut is_first = true;
+    for ch in text.chars() {
+        let fits = if is_first {
+            begins_name(ch)
+        } else {
+            continues_name(ch)
+        };
+        if !fits {
+            return false;
+        }
+        is_first = false;
+    }
+    !is_first
+}
