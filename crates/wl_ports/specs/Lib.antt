@@ -1,6 +1,6 @@
-pub mod Name
-pub mod Counted
 pub mod Causes
-pub mod Ports
+pub mod Counted
 pub mod Memory
+pub mod Name
+pub mod Ports
 pub mod Rest

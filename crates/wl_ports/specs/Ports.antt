@@ -1,6 +1,5 @@
 -- What the calls of a source and a sink do.
-use Rattle.std.specs.Prelude.{◌≡◌, ◌≢◌, ◌++◌, ◌&&◌, ℕ, Bool, true, List, nat_eq, Option, Result, Ok, Err, IsErr, option_map}
-use Rattle.std.specs.Io.KnownBytes.{Appends, Consumes, IsAtEnd}
+use Rattle.std.specs.Prelude.{◌≡◌, ◌≢◌, ◌&&◌, ℕ, Bool, true, List, nat_eq, Option, Result, Ok, Err, IsErr, option_map}
 use Rattle.wl_ports.specs.Causes.{next_count}
 
 -- an `open` counts as a hit where it asks for the served name, and else as a stray, which fails
@@ -17,17 +16,3 @@ flushed_after (Err e) flushed = flushed
 abbrev pub flushed_by : {T E : Type 0} → Result T E → Option Bool → Option Bool
 flushed_by {T} {E} (Ok x) flushed = option_map (λ f. true) flushed
 flushed_by {T} {E} (Err e) flushed = flushed
-
--- what was read was written, and the source is at its end
-pub record IsCopied (left left' held held' : Option (List ℕ)) : Type 0 where
-  pub bytes : List ℕ
-  pub taken : Consumes left left' bytes
-  pub written : Appends held held' bytes
-  pub at_end : IsAtEnd left'
-
--- a front of what was read was written
-pub record IsCopiedInPart (left left' held held' : Option (List ℕ)) : Type 0 where
-  pub bytes : List ℕ
-  pub rest : List ℕ
-  pub taken : Consumes left left' (bytes ++ rest)
-  pub written : Appends held held' bytes

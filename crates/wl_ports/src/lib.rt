@@ -1,4 +1,4 @@
-//! Work and the outside.
+//! The outside of the kernel: sources and sinks, real and in memory, and the list of counts of its work.
 #![tactic(auto)]
 
 mod calls;
@@ -7,7 +7,8 @@ mod memory_sink;
 mod memory_source;
 mod name;
 mod ports;
-mod real;
+mod std_sink;
+mod std_source;
 mod work;
 
 pub use memory::Memory;
@@ -15,5 +16,6 @@ pub use memory_sink::MemorySink;
 pub use memory_source::MemorySource;
 pub use name::{begins_name, continues_name, is_name};
 pub use ports::{Failed, Sink, Source};
-pub use real::{StdSink, StdSource};
+pub use std_sink::StdSink;
+pub use std_source::StdSource;
 pub use work::{Ledger, NoLedger, Work};

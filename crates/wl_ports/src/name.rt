@@ -22,17 +22,17 @@ pub fn continues_name(ch: char) -> bool
 pub fn is_name(text: &str) -> bool
     ensures { result ≡ is_name text.now }
 {
-    let mut is_first = true;
-    for ch in text.chars() {
-        let fits = if is_first {
-            begins_name(ch)
-        } else {
-            continues_name(ch)
-        };
-        if !fits {
+    let mut chars = text.chars();
+    let Some(first) = chars.next() else {
+        return false;
+    };
+    if !begins_name(first) {
+        return false;
+    }
+    for ch in chars {
+        if !continues_name(ch) {
             return false;
         }
-        is_first = false;
     }
-    !is_first
+    true
 }
