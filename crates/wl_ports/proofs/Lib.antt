@@ -1,1 +1,2 @@
+pub mod AsciiNames
 pub mod Names

@@ -1,4 +1,4 @@
-use Rattle.std.proofs.Common.{ap, subst, sym, ◌∙◌}
+use Rattle.std.proofs.Common.{subst, sym}
 use Rattle.std.specs.Str.Iter.{chars_rest}
 use Rattle.wl_ports.proofs.Names.{name_begun, name_goes_on, name_not_begun, name_ends_early, name_ended, IsNameSoFar}
 use Rattle.wl_ports.proofs.name.is_name.Goals as goal
