@@ -1,0 +1,1 @@
+//! Laws of the definitions that the contracts of `Num` speak of.

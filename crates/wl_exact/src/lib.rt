@@ -1,0 +1,7 @@
+//! Exact numbers: fractions of whole numbers in lowest terms, whose parts have 127 bits and a sign.
+#![tactic(auto)]
+
+pub mod laws;
+mod num;
+
+pub use num::{Num, NumFault};

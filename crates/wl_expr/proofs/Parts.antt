@@ -1,0 +1,40 @@
+-- The plain trees of a list of elements, and their size against the whole.
+use Rattle.std.proofs.Common.{◌≡◌, ℕ, zero, suc, ◌≤◌, ◌<◌, List, [], ◌∷◌, ◌++◌, length, get_or, map, refl, ap, arith}
+use Rattle.wl_expr.specs.Tree as tree
+use Rattle.wl_expr.specs.Tree.{Tree, node, to_list, weight, weights, depths}
+use Rattle.wl_expr.specs.Fold.{Cases, fold, folds}
+use Rattle.wl_expr.specs.Stamped.{Stamped, from_list, plain, plains, depth}
+
+-- an element is no deeper, and no heavier, than the elements together
+pub depth_arg : (ts : List Stamped) (i : ℕ) (d : Stamped) → i < length ts → depth (get_or ts i d) ≤ depths (plains (from_list ts))
+depth_arg [] i d h = absurd (omega arith)
+depth_arg (t ∷ ts) zero d h = omega arith
+depth_arg (t ∷ ts) (suc i) d h = omega (arith, depth_arg ts i d (omega arith))
+
+pub weight_arg : (ts : List Stamped) (i : ℕ) (d : Stamped) → i < length ts → weight (plain (get_or ts i d)) ≤ weights (plains (from_list ts))
+weight_arg [] i d h = absurd (omega arith)
+weight_arg (t ∷ ts) zero d h = omega arith
+weight_arg (t ∷ ts) (suc i) d h = omega (arith, weight_arg ts i d (omega arith))
+
+-- the plain trees, one by one
+pub plains_from_list : (ts : List Stamped) → plains (from_list ts) ≡ tree.from_list (map plain ts)
+plains_from_list [] = refl
+plains_from_list (t ∷ ts) = ap (λ us. tree.more (plain t) us) (plains_from_list ts)
+
+pub to_list_plains : (ts : List Stamped) → to_list (plains (from_list ts)) ≡ map plain ts
+to_list_plains [] = refl
+to_list_plains (t ∷ ts) = ap (λ us. plain t ∷ us) (to_list_plains ts)
+
+-- one more at the end
+pub plains_push : (ts : List Stamped) (t : Stamped) → plains (from_list (ts ++ t ∷ [])) ≡ tree.push (plains (from_list ts)) (plain t)
+plains_push [] t = refl
+plains_push (u ∷ ts) t = ap (λ us. tree.more (plain u) us) (plains_push ts t)
+
+-- what a fold gives at the elements, one by one
+pub folds_plains : {A : Type 0} (c : Cases A) (ts : List Stamped) → folds c (plains (from_list ts)) ≡ map (fold c) (map plain ts)
+folds_plains c [] = refl
+folds_plains c (t ∷ ts) = ap (λ us. fold c (plain t) ∷ us) (folds_plains c ts)
+
+-- equal parts make equal trees
+pub equal_parts : (h k : Tree) (ts us : List Stamped) → h ≡ k → map plain ts ≡ map plain us → node h (plains (from_list ts)) ≡ node k (plains (from_list us))
+equal_parts h k ts us p q = cc (plains_from_list ts, plains_from_list us)

@@ -1,0 +1,15 @@
+//! Expressions: shared trees of numbers, texts, symbols and nodes, their size and their order.
+#![tactic(auto)]
+
+mod applied;
+mod expr;
+mod fault;
+mod look;
+mod same;
+mod stamp;
+
+pub use applied::{Applied, Notice};
+pub use expr::{Expr, MAX_DEPTH, MAX_WEIGHT, copy_all};
+pub use fault::ExprFault;
+pub use look::Look;
+pub use stamp::{ReadList, Stamp};

@@ -1,0 +1,70 @@
+-- Cells that are answered one after another.
+use Rattle.std.proofs.Common.{◌≡◌, ◌+◌, ◌++◌, ℕ, List, [], ◌∷◌, length, map, sym, subst, refl, arith, ap, ◌∙◌, append_assoc, append-nil, length-append, Option}
+use Rattle.std.specs.Io.KnownBytes.{Appends}
+use Rattle.std.proofs.KnownBytes.{Appends-trans, Appends-nil}
+use Rattle.wl_session.specs.Answers.{Standing, outcome, shown, after, standing_after, answers}
+use Rattle.wl_session.specs.Cells.{Cutting, CellText, cut, ended}
+use Rattle.wl_session.specs.Streaming.{HasAnswered, HasFed}
+use Rattle.wl_session.proofs.Cutting.{cut_append, ended_append}
+
+pub standing_append : (s : Standing) (cs ds : List CellText) → standing_after s (cs ++ ds) ≡ standing_after (standing_after s cs) ds
+standing_append s [] ds = refl
+standing_append s (c ∷ cs) ds = standing_append (after s (outcome c)) cs ds
+
+pub answers_append : (s : Standing) (cs ds : List CellText) → answers s (cs ++ ds) ≡ answers s cs ++ answers (standing_after s cs) ds
+answers_append s [] ds = refl
+answers_append s (c ∷ cs) ds =
+    let first = shown (length s.history + 1) (outcome c) in
+    ap (λ (l : List ℕ). first ++ l) (answers_append (after s (outcome c)) cs ds) ∙ sym (append_assoc first (answers (after s (outcome c)) cs) (answers (standing_after (after s (outcome c)) cs) ds))
+
+-- one cell
+pub one_answered : (s s' : Standing) (h h' : Option (List ℕ)) (m m' : ℕ) (c : CellText) → s' ≡ after s (outcome c) → Appends h h' (shown (length s.history + 1) (outcome c)) → m' ≡ m + 1
+    → HasAnswered s s' h h' m m' (c ∷ [])
+one_answered s s' h h' m m' c stands wrote marks = record {
+  standing = stands;
+  written = subst (Appends h h') (sym (append-nil (shown (length s.history + 1) (outcome c)))) wrote;
+  marked = marks;
+}
+
+-- these cells, and then those
+pub answered_on : (s t u : Standing) (h i j : Option (List ℕ)) (m n o : ℕ) (cs ds : List CellText) → HasAnswered s t h i m n cs → HasAnswered t u i j n o ds → HasAnswered s u h j m o (cs ++ ds)
+answered_on s t u h i j m n o cs ds so_far more = record {
+  standing = more.standing ∙ ap (λ (x : Standing). standing_after x ds) so_far.standing ∙ sym (standing_append s cs ds);
+  written =
+      subst (Appends h j) (ap (λ (x : Standing). answers s cs ++ answers x ds) so_far.standing ∙ sym (answers_append s cs ds)) (Appends-trans h i j (answers s cs) (answers t ds) so_far.written more.written);
+  marked = omega (arith, so_far.marked, more.marked, length-append cs ds);
+}
+
+-- further bytes that end no cell
+pub fed_on : (c d e : Cutting) (s t : Standing) (h i : Option (List ℕ)) (m n : ℕ) (xs ys zs : List ℕ) → HasFed c d s t h i m n xs → e ≡ cut d ys → ended d ys ≡ [] → zs ≡ xs ++ ys → HasFed c e s t h i m n zs
+fed_on c d e s t h i m n xs ys zs so_far next none all =
+    subst (HasFed c e s t h i m n) (sym all) (record {
+      cutting = next ∙ ap (λ (x : Cutting). cut x ys) so_far.cutting ∙ sym (cut_append c xs ys);
+      answered =
+          subst (HasAnswered s t h i m n) (sym (ended_append c xs ys ∙ ap (λ (x : Cutting). ended c xs ++ ended x ys) (sym so_far.cutting) ∙ ap (λ (l : List CellText). ended c xs ++ l) none ∙ append-nil (ended c xs))) so_far.answered;
+    })
+
+-- further bytes that end a cell, which is answered
+pub fed_cell : (c d e : Cutting) (s t u : Standing) (h i j : Option (List ℕ)) (m n o : ℕ) (xs ys zs : List ℕ) (cell : CellText) → HasFed c d s t h i m n xs → e ≡ cut d ys → ended d ys ≡ cell ∷ []
+    → HasAnswered t u i j n o (cell ∷ []) → zs ≡ xs ++ ys → HasFed c e s u h j m o zs
+fed_cell c d e s t u h i j m n o xs ys zs cell so_far next one more all =
+    subst (HasFed c e s u h j m o) (sym all) (record {
+      cutting = next ∙ ap (λ (x : Cutting). cut x ys) so_far.cutting ∙ sym (cut_append c xs ys);
+      answered =
+          subst (HasAnswered s u h j m o) (sym (ended_append c xs ys ∙ ap (λ (x : Cutting). ended c xs ++ ended x ys) (sym so_far.cutting) ∙ ap (λ (l : List CellText). ended c xs ++ l) one))
+          (answered_on s t u h i j m n o (ended c xs) (cell ∷ []) so_far.answered more);
+    })
+
+pub nothing_answered : (s t : Standing) (h i : Option (List ℕ)) (m n : ℕ) → t ≡ s → i ≡ h → n ≡ m → HasAnswered s t h i m n []
+nothing_answered s t h i m n stands holds marks = record {
+  standing = stands;
+  written = subst (λ (x : Option (List ℕ)). Appends h x []) (sym holds) (Appends-nil h);
+  marked = omega (arith, marks);
+}
+
+pub fed_append : (c d e : Cutting) (s t u : Standing) (h i j : Option (List ℕ)) (m n o : ℕ) (xs ys : List ℕ) → HasFed c d s t h i m n xs → HasFed d e t u i j n o ys → HasFed c e s u h j m o (xs ++ ys)
+fed_append c d e s t u h i j m n o xs ys so_far more = record {
+  cutting = more.cutting ∙ ap (λ (x : Cutting). cut x ys) so_far.cutting ∙ sym (cut_append c xs ys);
+  answered =
+      subst (HasAnswered s u h j m o) (ap (λ (x : Cutting). ended c xs ++ ended x ys) so_far.cutting ∙ sym (ended_append c xs ys)) (answered_on s t u h i j m n o (ended c xs) (ended d ys) so_far.answered more.answered);
+}

@@ -1,0 +1,7 @@
+pub mod Answering
+pub mod Cutting
+pub mod Ending
+pub mod Pieces
+pub mod Streams
+pub mod SumTrees
+pub mod Summands

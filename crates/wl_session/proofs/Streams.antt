@@ -1,0 +1,69 @@
+-- A run so far.
+use Rattle.std.proofs.Common.{◌≡◌, ◌≤◌, ◌<◌, ◌+◌, ◌-◌, ◌++◌, ℕ, List, [], ◌∷◌, length, take, drop, sym, subst, refl, arith, ap, ◌∙◌, append_assoc, append-nil, length-append, Option}
+use Rattle.std.specs.Io.KnownBytes.{Appends, Consumes, Keeps, IsAtEnd}
+use Rattle.std.proofs.KnownBytes.{Appends-trans, Consumes-trans, Consumes-kept}
+use Rattle.std.proofs.lemmas.List.{length-take-le, take-append-le, take-append-drop}
+use Rattle.std.proofs.Math.Seq.{take-append-add}
+use Rattle.wl_session.specs.Answers.{Standing}
+use Rattle.wl_session.specs.Cells.{Cutting, CellText, cut, ended, remainder, start, cells}
+use Rattle.wl_session.specs.Streaming.{HasAnswered, HasFed, AnswersAll, AnswersSome, AnswersFirst}
+use Rattle.wl_session.specs.Transcript.{input_limit}
+use Rattle.wl_session.proofs.Cutting.{cut_append, ended_append}
+use Rattle.wl_session.proofs.Answering.{answered_on, fed_append}
+
+-- these bytes were taken and fed, and so many more may be taken
+pub record HasStreamed (left left' : Option (List ℕ)) (c : Cutting) (s s' : Standing) (held held' : Option (List ℕ)) (begun begun' room : ℕ) : Type 0 where
+  pub bytes : List ℕ
+  pub taken : Consumes left left' bytes
+  pub fed : HasFed start c s s' held held' begun begun' bytes
+  pub budget : length bytes + room ≡ input_limit + 1
+
+pub streamed_on : (a b b' : Option (List ℕ)) (c d : Cutting) (s t u : Standing) (h i j : Option (List ℕ)) (m n o room n' room' : ℕ) (piece : List ℕ) → HasStreamed a b c s t h i m n room → Consumes b b' piece → HasFed c d t u i j n o piece
+    → length piece ≡ n' → room ≡ room' + n' → HasStreamed a b' d s u h j m o room'
+streamed_on a b b' c d s t u h i j m n o room n' room' piece so_far took more long falls = record {
+  bytes = so_far.bytes ++ piece;
+  taken = Consumes-trans a b b' so_far.bytes piece so_far.taken took;
+  fed = fed_append start c d s t u h i j m n o so_far.bytes piece so_far.fed more;
+  budget = omega (arith, length-append so_far.bytes piece, so_far.budget);
+}
+
+-- the source is at its end, and its last cell is answered
+pub streamed_all : (a b b' : Option (List ℕ)) (c : Cutting) (s t u : Standing) (h i j : Option (List ℕ)) (m n o room count : ℕ) (piece : List ℕ) → HasStreamed a b c s t h i m n room → 0 < room → count ≡ 0 → Consumes b b' (take count piece) → IsAtEnd b'
+    → HasAnswered t u i j n o (remainder c) → AnswersAll a b' s u h j m o
+streamed_all a b b' c s t u h i j m n o room count piece so_far more none took ends rest = record {
+  bytes = so_far.bytes;
+  taken = subst (Consumes a b') (append-nil so_far.bytes) (Consumes-trans a b b' so_far.bytes [] so_far.taken (subst (λ (k : ℕ). Consumes b b' (take k piece)) none took));
+  at_end = ends;
+  few = omega (arith, so_far.budget);
+  answered =
+      subst (λ (x : Cutting). HasAnswered s u h j m o (ended start so_far.bytes ++ remainder x)) so_far.fed.cutting
+      (answered_on s t u h i j m n o (ended start so_far.bytes) (remainder c) so_far.fed.answered rest);
+}
+
+-- a read failed
+pub streamed_some : (a b b' : Option (List ℕ)) (c : Cutting) (s t : Standing) (h i : Option (List ℕ)) (m n room : ℕ) → HasStreamed a b c s t h i m n room → 0 < room → Keeps b b' → AnswersSome a b' s t h i m n
+streamed_some a b b' c s t h i m n room so_far more kept = record {
+  bytes = so_far.bytes;
+  taken = Consumes-kept a b b' so_far.bytes so_far.taken kept;
+  few = omega (arith, so_far.budget);
+  answered = so_far.fed.answered;
+}
+
+front : (xs piece : List ℕ) (count limit : ℕ) → 0 < count → count ≤ length piece → length xs + count ≡ limit + 1 → take limit (xs ++ take count piece) ≡ xs ++ take (count - 1) piece
+front xs piece count limit some within budget =
+    let first : limit ≡ length xs + (count - 1) = omega arith in
+    let shorter : count - 1 ≤ length (take count piece) = omega (arith, length-take-le count piece within) in
+    ap (λ (k : ℕ). take k (xs ++ take count piece)) first ∙ take-append-add xs (take count piece) (count - 1)
+    ∙ ap (λ (l : List ℕ). xs ++ l) (sym (take-append-le (count - 1) (take count piece) (drop count piece) shorter) ∙ ap (take (count - 1)) (take-append-drop count piece))
+
+-- one byte too many was taken
+pub streamed_first : (a b b' : Option (List ℕ)) (c d : Cutting) (s t u : Standing) (h i j : Option (List ℕ)) (m n o room count : ℕ) (piece : List ℕ) → HasStreamed a b c s t h i m n room → 0 < room → count ≡ room → count ≤ length piece
+    → Consumes b b' (take count piece) → HasFed c d t u i j n o (take (count - 1) piece) → AnswersFirst a b' s u h j m o
+streamed_first a b b' c d s t u h i j m n o room count piece so_far more all within took fed = record {
+  bytes = so_far.bytes ++ take count piece;
+  taken = Consumes-trans a b b' so_far.bytes (take count piece) so_far.taken took;
+  many = omega (arith, length-append so_far.bytes (take count piece), length-take-le count piece within, so_far.budget);
+  answered =
+      subst (λ (l : List ℕ). HasAnswered s u h j m o (ended start l)) (sym (front so_far.bytes piece count input_limit (omega arith) within (omega (arith, so_far.budget))))
+      (fed_append start c d s t u h i j m n o so_far.bytes (take (count - 1) piece) so_far.fed fed).answered;
+}

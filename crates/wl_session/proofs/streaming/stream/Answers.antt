@@ -1,0 +1,31 @@
+use Rattle.std.proofs.Common.{◌≡◌, ◌<◌, ◌-◌, arith, ◌∙◌}
+use Rattle.std.proofs.lemmas.List.{length-take-le}
+use Rattle.wl_session.proofs.Streams.{streamed_on, streamed_all, streamed_first}
+use Rattle.wl_session.proofs.streaming.stream.Goals as goal
+
+pub returns-in-Ok-answer_rest-clause-answers : goal.returns-in-Ok-answer_rest-clause-answers
+returns-in-Ok-answer_rest-clause-answers g c =
+    let so_far = c.pieces.invariant in
+    let none : c.in-Ok-eq0.field-0 ≡ 0 = c.in-Ok-eq0.field-0-test in
+    let ensured = c.in-Ok-eq0.ensures in
+    streamed_all _ _ _ _ _ _ _ _ _ _ _ _ _ _ _ _ so_far.streamed so_far.more none ensured.bytes (ensured.end none) c.in-Ok-answer_rest.ensures.answered
+
+pub returns-in-Ok-feed-clause-answers : goal.returns-in-Ok-feed-clause-answers
+returns-in-Ok-feed-clause-answers g c =
+    let so_far = c.pieces.invariant in
+    let ensured = c.in-Ok.ensures in
+    streamed_first _ _ _ _ _ _ _ _ _ _ _ _ _ _ _ _ _ so_far.streamed so_far.more c.if-count-room.true ensured.bound ensured.bytes c.in-Ok-feed.ensures.fed
+
+pub pieces-preserved : goal.pieces-preserved
+pieces-preserved g c =
+    let so_far = c.pieces.invariant in
+    let ensured = c.in-Ok.ensures in
+    record {
+      more = omega (arith, ensured.within);
+      reads = ensured.cause.kept ∙ so_far.reads;
+      writes = c.in-Ok-feed-2.ensures.blamed ∙ so_far.writes;
+      hits = ensured.hits ∙ so_far.hits;
+      strays = ensured.strays ∙ so_far.strays;
+      streamed =
+          streamed_on _ _ _ _ _ _ _ _ _ _ _ _ _ _ _ _ _ _ so_far.streamed ensured.bytes c.in-Ok-feed-2.ensures.fed (length-take-le _ _ ensured.bound) (omega (arith, ensured.within));
+    }

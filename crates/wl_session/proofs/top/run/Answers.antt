@@ -1,0 +1,19 @@
+use Rattle.wl_session.proofs.Ending.{played_tells, played_too_long, too_long_played, read_to_end_played, strayed}
+use Rattle.wl_session.proofs.top.run.Goals as goal
+
+pub returns-clause-transcript : goal.returns-clause-transcript
+returns-clause-transcript g c =
+    let played = c.play-played.ensures in
+    played_tells c.play-played.result _ _ _ _ _ _ _ _ _ _ _ _ _ _ _ c.in-Some.ensures c.new-session.ensures c.status_of-status.ensures played.answers played.blamed
+
+pub returns-clause-too_long_only : goal.returns-clause-too_long_only
+returns-clause-too_long_only g c = played_too_long c.play-played.result _ _ _ _ _ _ _ _ _ _ c.status_of-status.ensures c.play-played.ensures.answers
+
+pub returns-clause-too_long_when : goal.returns-clause-too_long_when
+returns-clause-too_long_when g c = λ read. too_long_played c.play-played.result _ _ _ _ _ _ _ _ _ _ _ _ _ _ c.status_of-status.ensures c.play-played.ensures.answers c.play-played.ensures.blamed
+
+pub returns-clause-read_to_end_when : goal.returns-clause-read_to_end_when
+returns-clause-read_to_end_when g c = λ read. read_to_end_played c.play-played.result _ _ _ _ _ _ _ _ _ _ _ _ _ _ c.status_of-status.ensures c.play-played.ensures.answers c.play-played.ensures.blamed
+
+pub returns-clause-stray : goal.returns-clause-stray
+returns-clause-stray g c = λ tells. strayed _ _ _ _ _ _ _ _ c.in-Some.ensures (c.play-played.ensures.stray tells)

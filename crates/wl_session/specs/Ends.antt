@@ -1,0 +1,59 @@
+-- How a run ends: its status, and what that says of its source, its sinks and its history.
+use Rattle.std.specs.Prelude.{◌≡◌, ◌≢◌, ◌≤◌, ◌<◌, ◌+◌, ◌-◌, ◌^◌, ◌++◌, ◌⊎◌, ◌↔◌, ℕ, Bool, true, false, List, [], length, map, take, Option, Some, None, IsSome, IsNone, IfSome, Result, Ok, Err}
+use Rattle.std.specs.Io.KnownBytes.{Appends, Consumes, IsAtEnd}
+use Rattle.wl_ports.specs.Causes.{Rose, next_count}
+use Rattle.wl_session.specs.Answers.{HistoryLine}
+use Rattle.wl_session.specs.Sitting.{Sitting, plain_lines}
+use Rattle.wl_session.specs.Transcript.{Transcript, input_limit}
+use Rattle.wl_session.specs.declared.ended.Ended.{Ended}
+use Rattle.wl_session.specs.declared.streaming.Stop.{Stop}
+use Rattle.wl_session.specs.declared.streaming.Stop.TheVariants.{ReadFault, WriteFault, OutOfMemory, TooLong}
+
+-- the status of a run that is not refused its words; at its end it says whether a cell was refused
+abbrev pub status_of : Result (Unit {0}) Stop → Bool → ℕ
+status_of (Ok done) false = 0
+status_of (Ok done) true = 1
+status_of (Err ReadFault) refused = 3
+status_of (Err WriteFault) refused = 4
+status_of (Err OutOfMemory) refused = 5
+status_of (Err TooLong) refused = 6
+
+-- the history of the session, where there is one
+abbrev pub history_of : Option Sitting → List HistoryLine
+history_of None = []
+history_of (Some sitting) = plain_lines sitting.lines
+
+-- the status, the bytes on `out` and the history are those of the transcript
+pub record IsTranscript (t : Transcript) (ended : Ended) (held held' : Option (List ℕ)) : Type 0 where
+  pub status : ended.status ≡ t.status
+  pub out : Appends held held' t.out
+  pub history : history_of ended.session ≡ t.history
+
+-- so many bytes were taken from the source, where it tells them
+pub record HasTaken (n : ℕ) (left left' : Option (List ℕ)) : Type 0 where
+  pub bytes : List ℕ
+  pub taken : Consumes left left' bytes
+  pub many : length bytes ≡ n
+
+-- the source held no more bytes than are read, and none are left, where it tells them
+pub record IsReadToEnd (left left' : Option (List ℕ)) : Type 0 where
+  pub few : IfSome left (λ bytes. length bytes ≤ input_limit)
+  pub at_end : IsAtEnd left'
+
+-- a count of faults neither rose nor stands at the counter's last value
+pub record IsFaultless (before now : ℕ) : Type 0 where
+  pub kept : now ≡ before
+  pub below : before < 2 ^ 64 - 1
+
+-- a line was tried once: a front of it was written, and all of it unless the count of faults rose
+pub record IsTold (line : List ℕ) (held held' : Option (List ℕ)) (faults faults' : ℕ) : Type 0 where
+  pub front : List ℕ
+  pub rest : List ℕ
+  pub whole : line ≡ front ++ rest
+  pub written : Appends held held' front
+  pub all : (rest ≡ []) ⊎ Rose faults faults'
+
+-- a counter rose by one, which want of memory may have prevented
+pub record HasRisen (status before now : ℕ) : Type 0 where
+  pub rose : status ≢ 5 → now ≡ next_count before
+  pub or_stayed : (now ≡ next_count before) ⊎ (now ≡ before)

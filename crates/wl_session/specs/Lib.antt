@@ -1,0 +1,11 @@
+pub mod Answers
+pub mod Cell
+pub mod Cells
+pub mod Ends
+pub mod Pieces
+pub mod Place
+pub mod Streaming
+pub mod Sums
+pub mod Transcript
+pub mod Words
+pub mod Sitting

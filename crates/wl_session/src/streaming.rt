@@ -1,0 +1,183 @@
+//! A source is read in pieces, its bytes are cut into cells, and each cell is answered before more is read.
+ghost use Rattle.std.specs.Prelude.{◌≡◌, ◌≤◌, ◌<◌, ◌+◌, ◌++◌, ℕ, List, [], ◌∷◌, length, take, IfOk, OnOk, OnErr, IsTrue, MatchResult, Result, Ok, Err};
+ghost use Rattle.std.specs.Io.KnownBytes.{Appends, Consumes, Keeps, IsAtEnd};
+ghost use Rattle.wl_ports.specs.Causes.{HasCause};
+ghost use Rattle.wl_session.specs.Cells.{start, remainder};
+ghost use Rattle.wl_session.specs.Pieces.{IsWrittenInPart};
+ghost use Rattle.wl_session.specs.Sitting.{standing};
+ghost use Rattle.wl_session.specs.Streaming.{HasAnswered, HasFed, OutIsBlamed, IsBlamed, Answers};
+
+use crate::cells::Cells;
+use crate::session::Session;
+use std::alloc::Global;
+use wl_ports::{Failed, Ledger, Memory, Sink, Source, Work};
+
+/// The longest input that is read, in bytes.
+const INPUT_LIMIT: u64 = 1_073_741_824;
+
+/// The longest piece that is asked for, in bytes.
+const PIECE: usize = 4_096;
+
+/// Why a run stops before all its cells are answered.
+#[derive(Drop, Clone, Copy)]
+pub(crate) enum Stop {
+    ReadFault,
+    WriteFault,
+    OutOfMemory,
+    TooLong,
+}
+
+/// Writes on until all of the piece is taken.
+pub(crate) fn write_whole<K: Sink>(out: &mut K, piece: &[u8]) -> Result<(), Failed>
+    ensures cause { HasCause (K.faults out.old) (K.faults out.new) result }
+    ensures whole { OnOk result (Appends (K.held out.old) (K.held out.new) piece.now) }
+    ensures part { OnErr result (IsWrittenInPart piece.now (K.held out.old) (K.held out.new)) }
+{
+    let mut at = 0;
+    while at < piece.len() {
+        match out.write(&piece[at..]) {
+            Ok(count) => at += count,
+            Err(Failed) => return Err(Failed),
+        }
+    }
+    Ok(())
+}
+
+/// One read of at most `room` bytes.
+pub(crate) fn read_piece<S: Source>(
+    source: &mut S,
+    piece: &mut [u8],
+    room: u64,
+) -> Result<usize, Failed>
+    requires space { 0 < length piece.old }
+    requires room { 0 < room }
+    ensures cause { HasCause (S.faults source.old) (S.faults source.new) result }
+    ensures within { IfOk result (λ n. n ≤ room) }
+    ensures bound { IfOk result (λ n. n ≤ length piece.new) }
+    ensures bytes { MatchResult result (λ n. Consumes (S.left source.old) (S.left source.new) (take n piece.new))
+        (λ _. Keeps (S.left source.old) (S.left source.new)) }
+    ensures end { IfOk result (λ n. n ≡ 0 → IsAtEnd (S.left source.new)) }
+    ensures hits { S.hits source.new ≡ S.hits source.old }
+    ensures strays { S.strays source.new ≡ S.strays source.old }
+{
+    let most = if room < piece.len() as u64 {
+        room as usize
+    } else {
+        piece.len()
+    };
+    source.read(&mut piece[..most])
+}
+
+/// Answers the cell that was just told of, and writes its bytes.
+fn answer_cell<K: Sink, L: Ledger>(
+    alloc: Global,
+    cells: &Cells,
+    session: &mut Session,
+    out: &mut K,
+    work: &mut Work<L>,
+) -> Result<(), Stop>
+    requires { IsTrue cells.now.told }
+    ensures blamed { OutIsBlamed result (K.faults out.old) (K.faults out.new) }
+    ensures answered { OnOk result (HasAnswered (standing session.old) (standing session.new)
+        (K.held out.old) (K.held out.new) (length work.old) (length work.new) (cells.now.kept ∷ [])) }
+{
+    work.mark();
+    match session.answer(alloc, cells.cell()) {
+        Ok(()) => {}
+        Err(Memory) => return Err(Stop::OutOfMemory),
+    }
+    match write_whole(out, session.pending()) {
+        Ok(()) => Ok(()),
+        Err(Failed) => Err(Stop::WriteFault),
+    }
+}
+
+/// Cuts a piece, and answers each cell that ends within it.
+fn feed<K: Sink, L: Ledger>(
+    alloc: Global,
+    cells: &mut Cells,
+    session: &mut Session,
+    piece: &[u8],
+    out: &mut K,
+    work: &mut Work<L>,
+) -> Result<(), Stop>
+    ensures blamed { OutIsBlamed result (K.faults out.old) (K.faults out.new) }
+    ensures fed { OnOk result (HasFed cells.old cells.new (standing session.old) (standing session.new)
+        (K.held out.old) (K.held out.new) (length work.old) (length work.new) piece.now) }
+{
+    let mut at = 0;
+    while at < piece.len() {
+        let fed = cells.feed(&piece[at..]);
+        at += fed.used;
+        if fed.cell {
+            match answer_cell(alloc, cells, session, out, work) {
+                Ok(()) => {}
+                Err(stop) => return Err(stop),
+            }
+        }
+    }
+    Ok(())
+}
+
+/// Ends the text, and answers its rest where that is a cell.
+fn answer_rest<K: Sink, L: Ledger>(
+    alloc: Global,
+    cells: &mut Cells,
+    session: &mut Session,
+    out: &mut K,
+    work: &mut Work<L>,
+) -> Result<(), Stop>
+    ensures blamed { OutIsBlamed result (K.faults out.old) (K.faults out.new) }
+    ensures answered { OnOk result (HasAnswered (standing session.old) (standing session.new)
+        (K.held out.old) (K.held out.new) (length work.old) (length work.new) (remainder cells.old)) }
+{
+    if !cells.finish() {
+        return Ok(());
+    }
+    match answer_cell(alloc, cells, session, out, work) {
+        Ok(()) => Ok(()),
+        Err(stop) => Err(stop),
+    }
+}
+
+/// Reads the source to its end, and answers each cell before more is read.
+pub(crate) fn stream<S: Source, K: Sink, L: Ledger>(
+    alloc: Global,
+    cells: &mut Cells,
+    session: &mut Session,
+    source: &mut S,
+    out: &mut K,
+    work: &mut Work<L>,
+) -> Result<(), Stop>
+    requires { cells.old ≡ start }
+    ensures blamed { IsBlamed result (S.faults source.old) (S.faults source.new) (K.faults out.old) (K.faults out.new) }
+    ensures hits { S.hits source.new ≡ S.hits source.old }
+    ensures strays { S.strays source.new ≡ S.strays source.old }
+    ensures answers { Answers result (S.left source.old) (S.left source.new) (standing session.old) (standing session.new)
+        (K.held out.old) (K.held out.new) (length work.old) (length work.new) }
+{
+    let mut piece = [0u8; PIECE];
+    let mut room = INPUT_LIMIT + 1;
+    'pieces: loop {
+        let count = match read_piece(source, &mut piece, room) {
+            Ok(0) => {
+                return match answer_rest(alloc, cells, session, out, work) {
+                    Ok(()) => Ok(()),
+                    Err(stop) => Err(stop),
+                };
+            }
+            Ok(count) => count,
+            Err(Failed) => return Err(Stop::ReadFault),
+        };
+        if count as u64 == room {
+            return match feed(alloc, cells, session, &piece[..count - 1], out, work) {
+                Ok(()) => Err(Stop::TooLong),
+                Err(stop) => Err(stop),
+            };
+        }
+        match feed(alloc, cells, session, &piece[..count], out, work) {
+            Ok(()) => room -= count as u64,
+            Err(stop) => return Err(stop),
+        }
+    }
+}

@@ -1,0 +1,158 @@
+//! The top call: a notebook is read from a source, and what its cells answer is written to a sink.
+ghost use Rattle.std.specs.Prelude.{◌≡◌, ◌≢◌, ◌≤◌, ◌<◌, ◌+◌, ◌↔◌, ◌⊎◌, ℕ, true, Option, Some, None, IsSome, IsNone, IfSome, OnOk, length, map, option_copied, string_bytes, Result, Ok, Err};
+ghost use Rattle.wl_ports.specs.Causes.{Rose, next_count};
+ghost use Rattle.wl_session.specs.Cells.{start, cells};
+ghost use Rattle.wl_session.specs.Ends.{IsTold, IsTranscript, IsFaultless, IsReadToEnd, HasTaken, HasRisen, status_of};
+ghost use Rattle.wl_session.specs.Sitting.{standing};
+ghost use Rattle.wl_session.specs.Streaming.{IsBlamed, Answers};
+ghost use Rattle.wl_session.specs.Transcript.{line_for, transcript, input_limit};
+ghost use Rattle.wl_session.specs.Words.{asked, words_of};
+
+use crate::cells::Cells;
+use crate::ended::Ended;
+use crate::session::Session;
+use crate::streaming::{Stop, stream, write_whole};
+use crate::words::asked;
+use std::alloc::Global;
+use wl_ports::{Failed, Ledger, Sink, Source, Work};
+
+/// Opens the source, answers its cells, and flushes what was written.
+fn play<S: Source, K: Sink, L: Ledger>(
+    alloc: Global,
+    name: Option<&str>,
+    cells: &mut Cells,
+    session: &mut Session,
+    source: &mut S,
+    out: &mut K,
+    work: &mut Work<L>,
+) -> Result<(), Stop>
+    requires { cells.old ≡ start }
+    ensures blamed { IsBlamed result (S.faults source.old) (S.faults source.new) (K.faults out.old) (K.faults out.new) }
+    ensures answers { Answers result (S.left source.old) (S.left source.new) (standing session.old) (standing session.new)
+        (K.held out.old) (K.held out.new) (length work.old) (length work.new) }
+    ensures hit { IsSome (S.left source.old) → option_copied name.entry ≡ S.served source.old
+        → (S.hits source.new ≡ next_count (S.hits source.old)) × (S.strays source.new ≡ S.strays source.old) }
+    ensures stray { IsSome (S.left source.old) → option_copied name.entry ≢ S.served source.old
+        → (S.hits source.new ≡ S.hits source.old) × (S.strays source.new ≡ next_count (S.strays source.old)) }
+    ensures flushed { OnOk result (IsSome (K.held out.old) → K.flushed out.new ≡ Some true) }
+{
+    match source.open(name) {
+        Ok(()) => {}
+        Err(Failed) => return Err(Stop::ReadFault),
+    }
+    match stream(alloc, cells, session, source, out, work) {
+        Ok(()) => {}
+        Err(stop) => return Err(stop),
+    }
+    match out.flush() {
+        Ok(()) => Ok(()),
+        Err(Failed) => Err(Stop::WriteFault),
+    }
+}
+
+/// The line on `err` for a status.
+fn line_for(status: u8) -> &'static str
+    ensures { result.now ≡ line_for status }
+{
+    match status {
+        2 => "usage: wl [--steps N] [--form input|full] [--demo N] [FILE]\n",
+        3 => "wl: read failed\n",
+        4 => "wl: write failed\n",
+        5 => "wl: out of memory\n",
+        6 => "wl: input longer than 1073741824 bytes\n",
+        _ => "",
+    }
+}
+
+/// Tries the line for a status once.
+fn tell<E: Sink>(err: &mut E, status: u8)
+    ensures { IsTold (line_for status) (E.held err.old) (E.held err.new) (E.faults err.old) (E.faults err.new) }
+{
+    let _ = write_whole(err, line_for(status).as_bytes());
+}
+
+/// The status of a run whose words were read.
+fn status_of(played: &Result<(), Stop>, session: &Session) -> u8
+    ensures { result ≡ status_of played.now session.now.refused }
+{
+    match played {
+        Ok(()) => { if session.is_refused() { 1 } else { 0 } }
+        Err(Stop::ReadFault) => 3,
+        Err(Stop::WriteFault) => 4,
+        Err(Stop::OutOfMemory) => 5,
+        Err(Stop::TooLong) => 6,
+    }
+}
+
+/// Answers the notebook that the words ask for.
+///
+/// The words are those after the program's name: none for standard input, or the name of a file. The bytes of a cell
+/// are written before more is read; at the end `out` is flushed. The line of a status of 2 to 6 is tried once on `err`.
+pub fn run<S: Source, K: Sink, E: Sink, L: Ledger>(
+    alloc: Global,
+    words: &[String],
+    source: &mut S,
+    out: &mut K,
+    err: &mut E,
+    work: &mut Work<L>,
+) -> Ended
+    ensures known { result.status ≤ 6 }
+
+    // What is written and kept is the transcript's, whatever the pieces.
+    ensures transcript { IfSome (S.left source.old) (λ bytes.
+        ¬ Rose (S.faults source.old) (S.faults source.new) → ¬ Rose (K.faults out.old) (K.faults out.new) → result.status ≢ 5
+        → IsTranscript (transcript (asked (words_of words.now)) bytes) result (K.held out.old) (K.held out.new)) }
+    ensures told { IsTold (line_for result.status) (E.held err.old) (E.held err.new) (E.faults err.old) (E.faults err.new) }
+    ensures marked { result.status ≤ 1 → IfSome (S.left source.old) (λ bytes. length work.new ≡ length work.old + length (cells bytes)) }
+    ensures flushed { result.status ≤ 1 → IsSome (K.held out.old) → K.flushed out.new ≡ Some true }
+
+    // When each status comes.
+    ensures usage { (result.status ≡ 2) ↔ IsNone (asked (words_of words.now)) }
+    ensures read_fault_only { result.status ≡ 3 → Rose (S.faults source.old) (S.faults source.new) }
+    ensures read_fault_when { S.faults source.old < S.faults source.new → result.status ≡ 3 }
+    ensures write_fault_only { result.status ≡ 4 → Rose (K.faults out.old) (K.faults out.new) }
+    ensures write_fault_when { K.faults out.old < K.faults out.new → result.status ≡ 4 }
+    ensures too_long_only { result.status ≡ 6 → HasTaken (input_limit + 1) (S.left source.old) (S.left source.new) }
+    ensures too_long_when { IsSome (asked (words_of words.now)) → IsSome (S.left source.old)
+        → HasTaken (input_limit + 1) (S.left source.old) (S.left source.new)
+        → IsFaultless (K.faults out.old) (K.faults out.new) → (result.status ≡ 6) ⊎ (result.status ≡ 5) }
+    ensures read_to_end_only { result.status ≤ 1 → IsReadToEnd (S.left source.old) (S.left source.new) }
+    ensures read_to_end_when { IsSome (asked (words_of words.now)) → IsSome (S.left source.old)
+        → IsReadToEnd (S.left source.old) (S.left source.new) → IsFaultless (S.faults source.old) (S.faults source.new)
+        → IsFaultless (K.faults out.old) (K.faults out.new) → (result.status ≤ 1) ⊎ (result.status ≡ 5) }
+
+    // Which source is opened.
+    ensures hit { IsSome (S.left source.old) → asked (words_of words.now) ≡ Some (S.served source.old)
+        → HasRisen result.status (S.hits source.old) (S.hits source.new) × (S.strays source.new ≡ S.strays source.old) }
+    ensures stray { IsSome (S.left source.old)
+        → IfSome (asked (words_of words.now)) (λ name. name ≢ S.served source.old
+        → (S.hits source.new ≡ S.hits source.old) × HasRisen result.status (S.strays source.old) (S.strays source.new)) }
+    ensures unopened { result.status ≡ 2
+        → (S.hits source.new ≡ S.hits source.old) × (S.strays source.new ≡ S.strays source.old) }
+
+    ensures no_session_only { IsNone result.session → (result.status ≡ 2) ⊎ (result.status ≡ 5) }
+    ensures no_session_when { result.status ≡ 2 → IsNone result.session }
+{
+    let Some(name) = asked(words) else {
+        tell(err, 2);
+        return Ended {
+            status: 2,
+            session: None,
+        };
+    };
+    let mut session = Session::new(alloc);
+    let Ok(mut cells) = Cells::new(alloc) else {
+        tell(err, 5);
+        return Ended {
+            status: 5,
+            session: Some(session),
+        };
+    };
+    let played = play(alloc, name, &mut cells, &mut session, source, out, work);
+    let status = status_of(&played, &session);
+    tell(err, status);
+    Ended {
+        status,
+        session: Some(session),
+    }
+}
