@@ -9,6 +9,8 @@ mod name;
 mod ports;
 mod std_sink;
 mod std_source;
+#[cfg(test)]
+mod tests;
 mod work;
 
 pub use memory::Memory;

@@ -1,11 +1,12 @@
 -- Cells that are answered one after another.
-use Rattle.std.proofs.Common.{◌≡◌, ◌+◌, ◌++◌, ℕ, List, [], ◌∷◌, length, map, sym, subst, refl, arith, ap, ◌∙◌, append_assoc, append-nil, length-append, Option}
+use Rattle.std.proofs.Common.{◌≡◌, ◌+◌, ◌++◌, ℕ, List, [], ◌∷◌, length, map, sym, subst, refl, arith, ap, ◌∙◌, append_assoc, append-nil, length-append, Option, Bool, true, false, if◌then◌else◌}
 use Rattle.std.specs.Io.KnownBytes.{Appends}
+use Rattle.std.proofs.lemmas.List.{map-append}
 use Rattle.std.proofs.KnownBytes.{Appends-trans, Appends-nil}
-use Rattle.wl_session.specs.Answers.{Standing, outcome, shown, after, standing_after, answers}
-use Rattle.wl_session.specs.Cells.{Cutting, CellText, cut, ended}
+use Rattle.wl_session.specs.Answers.{Standing, outcome, shown, after, standing_after, answers, texts}
+use Rattle.wl_scan.specs.Cells.{Cutting, CellText, PlacedCell, cut, ended}
 use Rattle.wl_session.specs.Streaming.{HasAnswered, HasFed}
-use Rattle.wl_session.proofs.Cutting.{cut_append, ended_append}
+use Rattle.wl_scan.proofs.Pieces.{cut_append, ended_append, taken-cut}
 
 pub standing_append : (s : Standing) (cs ds : List CellText) → standing_after s (cs ++ ds) ≡ standing_after (standing_after s cs) ds
 standing_append s [] ds = refl
@@ -35,24 +36,34 @@ answered_on s t u h i j m n o cs ds so_far more = record {
   marked = omega (arith, so_far.marked, more.marked, length-append cs ds);
 }
 
+pub texts_append : (cs ds : List PlacedCell) → texts (cs ++ ds) ≡ texts cs ++ texts ds
+texts_append cs ds = map-append (λ (c : PlacedCell). c.text) cs ds
+
+-- what a call of `feed` or `finish` tells, by its flag
+pub told_of : (flag : Bool) (cell : PlacedCell) (cells : List PlacedCell) → cells ≡ (if flag then cell ∷ [] else []) → flag ≡ true → cells ≡ cell ∷ []
+told_of flag cell cells is told = is ∙ ap (λ (b : Bool). if b then cell ∷ [] else []) told
+
+pub told_of_none : (flag : Bool) (cell : PlacedCell) (cells : List PlacedCell) → cells ≡ (if flag then cell ∷ [] else []) → flag ≡ false → cells ≡ []
+told_of_none flag cell cells is told = is ∙ ap (λ (b : Bool). if b then cell ∷ [] else []) told
+
 -- further bytes that end no cell
 pub fed_on : (c d e : Cutting) (s t : Standing) (h i : Option (List ℕ)) (m n : ℕ) (xs ys zs : List ℕ) → HasFed c d s t h i m n xs → e ≡ cut d ys → ended d ys ≡ [] → zs ≡ xs ++ ys → HasFed c e s t h i m n zs
 fed_on c d e s t h i m n xs ys zs so_far next none all =
     subst (HasFed c e s t h i m n) (sym all) (record {
       cutting = next ∙ ap (λ (x : Cutting). cut x ys) so_far.cutting ∙ sym (cut_append c xs ys);
       answered =
-          subst (HasAnswered s t h i m n) (sym (ended_append c xs ys ∙ ap (λ (x : Cutting). ended c xs ++ ended x ys) (sym so_far.cutting) ∙ ap (λ (l : List CellText). ended c xs ++ l) none ∙ append-nil (ended c xs))) so_far.answered;
+          subst (λ (l : List PlacedCell). HasAnswered s t h i m n (texts l)) (sym (ended_append c xs ys ∙ ap (λ (x : Cutting). ended c xs ++ ended x ys) (sym so_far.cutting) ∙ ap (λ (l : List PlacedCell). ended c xs ++ l) none ∙ append-nil (ended c xs))) so_far.answered;
     })
 
 -- further bytes that end a cell, which is answered
-pub fed_cell : (c d e : Cutting) (s t u : Standing) (h i j : Option (List ℕ)) (m n o : ℕ) (xs ys zs : List ℕ) (cell : CellText) → HasFed c d s t h i m n xs → e ≡ cut d ys → ended d ys ≡ cell ∷ []
-    → HasAnswered t u i j n o (cell ∷ []) → zs ≡ xs ++ ys → HasFed c e s u h j m o zs
+pub fed_cell : (c d e : Cutting) (s t u : Standing) (h i j : Option (List ℕ)) (m n o : ℕ) (xs ys zs : List ℕ) (cell : PlacedCell) → HasFed c d s t h i m n xs → e ≡ cut d ys → ended d ys ≡ cell ∷ []
+    → HasAnswered t u i j n o (cell.text ∷ []) → zs ≡ xs ++ ys → HasFed c e s u h j m o zs
 fed_cell c d e s t u h i j m n o xs ys zs cell so_far next one more all =
     subst (HasFed c e s u h j m o) (sym all) (record {
       cutting = next ∙ ap (λ (x : Cutting). cut x ys) so_far.cutting ∙ sym (cut_append c xs ys);
       answered =
-          subst (HasAnswered s u h j m o) (sym (ended_append c xs ys ∙ ap (λ (x : Cutting). ended c xs ++ ended x ys) (sym so_far.cutting) ∙ ap (λ (l : List CellText). ended c xs ++ l) one))
-          (answered_on s t u h i j m n o (ended c xs) (cell ∷ []) so_far.answered more);
+          subst (λ (l : List PlacedCell). HasAnswered s u h j m o (texts l)) (sym (ended_append c xs ys ∙ ap (λ (x : Cutting). ended c xs ++ ended x ys) (sym so_far.cutting) ∙ ap (λ (l : List PlacedCell). ended c xs ++ l) one))
+          (subst (HasAnswered s u h j m o) (sym (texts_append (ended c xs) (cell ∷ []))) (answered_on s t u h i j m n o (texts (ended c xs)) (cell.text ∷ []) so_far.answered more));
     })
 
 pub nothing_answered : (s t : Standing) (h i : Option (List ℕ)) (m n : ℕ) → t ≡ s → i ≡ h → n ≡ m → HasAnswered s t h i m n []
@@ -66,5 +77,10 @@ pub fed_append : (c d e : Cutting) (s t u : Standing) (h i j : Option (List ℕ)
 fed_append c d e s t u h i j m n o xs ys so_far more = record {
   cutting = more.cutting ∙ ap (λ (x : Cutting). cut x ys) so_far.cutting ∙ sym (cut_append c xs ys);
   answered =
-      subst (HasAnswered s u h j m o) (ap (λ (x : Cutting). ended c xs ++ ended x ys) so_far.cutting ∙ sym (ended_append c xs ys)) (answered_on s t u h i j m n o (ended c xs) (ended d ys) so_far.answered more.answered);
+      subst (λ (l : List PlacedCell). HasAnswered s u h j m o (texts l)) (ap (λ (x : Cutting). ended c xs ++ ended x ys) so_far.cutting ∙ sym (ended_append c xs ys))
+      (subst (HasAnswered s u h j m o) (sym (texts_append (ended c xs) (ended d ys))) (answered_on s t u h i j m n o (texts (ended c xs)) (texts (ended d ys)) so_far.answered more.answered));
 }
+
+-- how many bytes were taken
+pub fed_taken : (c d : Cutting) (s t : Standing) (h i : Option (List ℕ)) (m n : ℕ) (xs : List ℕ) → HasFed c d s t h i m n xs → d.taken ≡ c.taken + length xs
+fed_taken c d s t h i m n xs so_far = ap (λ (x : Cutting). x.taken) so_far.cutting ∙ taken-cut c xs

@@ -4,8 +4,8 @@ use Rattle.std.proofs.lemmas.Bool.Decides.{nat_tests}
 use Rattle.std.proofs.lemmas.List.{take-append-le}
 use Rattle.std.specs.Io.KnownBytes.{Appends, Consumes, IsAtEnd}
 use Rattle.wl_ports.specs.Causes.{Rose, next_count}
-use Rattle.wl_session.specs.Answers.{Standing, fresh, standing_after, answers}
-use Rattle.wl_session.specs.Cells.{cells, ended, start}
+use Rattle.wl_session.specs.Answers.{Standing, fresh, standing_after, answers, texts}
+use Rattle.wl_scan.specs.Cells.{cells, ended, start}
 use Rattle.wl_session.specs.Ends.{status_of, IsTranscript, HasTaken, IsReadToEnd, IsFaultless, HasRisen}
 use Rattle.wl_session.specs.Sitting.{Sitting, standing}
 use Rattle.wl_session.specs.Streaming.{Answers, IsBlamed, AnswersAll, AnswersFirst}
@@ -40,15 +40,15 @@ taken_same (Some bytes) (Some ys) xs zs tells p q = omega (arith, ap length p, a
 no_fault : (before now : ℕ) → IsFaultless before now → ¬ Rose before now
 no_fault before now faultless rose = absurd (omega (arith, faultless.kept, faultless.below))
 
-all_is_transcript : (name : Option (List ℕ)) (bytes : List ℕ) (sitting : Sitting) (b h i : Option (List ℕ)) (m n status : ℕ) → AnswersAll (Some bytes) b fresh (standing sitting) h i m n → (sitting.refused ≡ (standing_after fresh (cells bytes)).refused → status ≡ (answered bytes).status)
+all_is_transcript : (name : Option (List ℕ)) (bytes : List ℕ) (sitting : Sitting) (b h i : Option (List ℕ)) (m n status : ℕ) → AnswersAll (Some bytes) b fresh (standing sitting) h i m n → (sitting.refused ≡ (standing_after fresh (texts (cells bytes))).refused → status ≡ (answered bytes).status)
     → IsTranscript (transcript (Some name) bytes) (record { status = status; session = Some sitting }) h i
 all_is_transcript name bytes sitting b h i m n status all says =
     let whole = taken_all bytes all.bytes b all.taken all.at_end in
-    let stands : standing sitting ≡ standing_after fresh (cells bytes) = all.answered.standing ∙ ap (λ (l : List ℕ). standing_after fresh (cells l)) whole in
+    let stands : standing sitting ≡ standing_after fresh (texts (cells bytes)) = all.answered.standing ∙ ap (λ (l : List ℕ). standing_after fresh (texts (cells l))) whole in
     let few : length bytes ≤ input_limit = subst (λ (l : List ℕ). length l ≤ input_limit) whole all.few in
     subst (λ (t : Transcript). IsTranscript t (record { status = status; session = Some sitting }) h i) (sym (transcript_short name bytes few)) (record {
       status = says (ap (λ (s : Standing). s.refused) stands);
-      out = subst (λ (l : List ℕ). Appends h i (answers fresh (cells l))) whole all.answered.written;
+      out = subst (λ (l : List ℕ). Appends h i (answers fresh (texts (cells l)))) whole all.answered.written;
       history = ap (λ (s : Standing). s.history) stands;
     })
 
@@ -56,10 +56,10 @@ first_is_transcript : (name : Option (List ℕ)) (bytes : List ℕ) (sitting : S
     → IsTranscript (transcript (Some name) bytes) (record { status = 6; session = Some sitting }) h i
 first_is_transcript name bytes sitting b h i m n first =
     let (longer, front) = taken_front bytes first.bytes b input_limit first.taken (omega (arith, first.many)) in
-    let stands : standing sitting ≡ standing_after fresh (ended start (take input_limit bytes)) = first.answered.standing ∙ ap (λ (l : List ℕ). standing_after fresh (ended start l)) front in
+    let stands : standing sitting ≡ standing_after fresh (texts (ended start (take input_limit bytes))) = first.answered.standing ∙ ap (λ (l : List ℕ). standing_after fresh (texts (ended start l))) front in
     subst (λ (t : Transcript). IsTranscript t (record { status = 6; session = Some sitting }) h i) (sym (transcript_long name bytes longer)) (record {
       status = refl;
-      out = subst (λ (l : List ℕ). Appends h i (answers fresh (ended start l))) front first.answered.written;
+      out = subst (λ (l : List ℕ). Appends h i (answers fresh (texts (ended start l)))) front first.answered.written;
       history = ap (λ (s : Standing). s.history) stands;
     })
 

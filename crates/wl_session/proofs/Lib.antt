@@ -1,5 +1,4 @@
 pub mod Answering
-pub mod Cutting
 pub mod Ending
 pub mod Pieces
 pub mod Streams

@@ -4,12 +4,12 @@ use Rattle.std.specs.Io.KnownBytes.{Appends, Consumes, Keeps, IsAtEnd}
 use Rattle.std.proofs.KnownBytes.{Appends-trans, Consumes-trans, Consumes-kept}
 use Rattle.std.proofs.lemmas.List.{length-take-le, take-append-le, take-append-drop}
 use Rattle.std.proofs.Math.Seq.{take-append-add}
-use Rattle.wl_session.specs.Answers.{Standing}
-use Rattle.wl_session.specs.Cells.{Cutting, CellText, cut, ended, remainder, start, cells}
+use Rattle.wl_scan.proofs.Pieces.{taken-cut}
+use Rattle.wl_session.specs.Answers.{Standing, texts}
+use Rattle.wl_scan.specs.Cells.{Cutting, PlacedCell, cut, ended, remainder, start, cells}
 use Rattle.wl_session.specs.Streaming.{HasAnswered, HasFed, AnswersAll, AnswersSome, AnswersFirst}
 use Rattle.wl_session.specs.Transcript.{input_limit}
-use Rattle.wl_session.proofs.Cutting.{cut_append, ended_append}
-use Rattle.wl_session.proofs.Answering.{answered_on, fed_append}
+use Rattle.wl_session.proofs.Answering.{answered_on, fed_append, texts_append}
 
 -- these bytes were taken and fed, and so many more may be taken
 pub record HasStreamed (left left' : Option (List ℕ)) (c : Cutting) (s s' : Standing) (held held' : Option (List ℕ)) (begun begun' room : ℕ) : Type 0 where
@@ -29,15 +29,16 @@ streamed_on a b b' c d s t u h i j m n o room n' room' piece so_far took more lo
 
 -- the source is at its end, and its last cell is answered
 pub streamed_all : (a b b' : Option (List ℕ)) (c : Cutting) (s t u : Standing) (h i j : Option (List ℕ)) (m n o room count : ℕ) (piece : List ℕ) → HasStreamed a b c s t h i m n room → 0 < room → count ≡ 0 → Consumes b b' (take count piece) → IsAtEnd b'
-    → HasAnswered t u i j n o (remainder c) → AnswersAll a b' s u h j m o
+    → HasAnswered t u i j n o (texts (remainder c)) → AnswersAll a b' s u h j m o
 streamed_all a b b' c s t u h i j m n o room count piece so_far more none took ends rest = record {
   bytes = so_far.bytes;
   taken = subst (Consumes a b') (append-nil so_far.bytes) (Consumes-trans a b b' so_far.bytes [] so_far.taken (subst (λ (k : ℕ). Consumes b b' (take k piece)) none took));
   at_end = ends;
   few = omega (arith, so_far.budget);
   answered =
-      subst (λ (x : Cutting). HasAnswered s u h j m o (ended start so_far.bytes ++ remainder x)) so_far.fed.cutting
-      (answered_on s t u h i j m n o (ended start so_far.bytes) (remainder c) so_far.fed.answered rest);
+      subst (λ (x : Cutting). HasAnswered s u h j m o (texts (ended start so_far.bytes ++ remainder x))) so_far.fed.cutting
+      (subst (HasAnswered s u h j m o) (sym (texts_append (ended start so_far.bytes) (remainder c)))
+      (answered_on s t u h i j m n o (texts (ended start so_far.bytes)) (texts (remainder c)) so_far.fed.answered rest));
 }
 
 -- a read failed
@@ -64,6 +65,10 @@ streamed_first a b b' c d s t u h i j m n o room count piece so_far more all wit
   taken = Consumes-trans a b b' so_far.bytes (take count piece) so_far.taken took;
   many = omega (arith, length-append so_far.bytes (take count piece), length-take-le count piece within, so_far.budget);
   answered =
-      subst (λ (l : List ℕ). HasAnswered s u h j m o (ended start l)) (sym (front so_far.bytes piece count input_limit (omega arith) within (omega (arith, so_far.budget))))
+      subst (λ (l : List ℕ). HasAnswered s u h j m o (texts (ended start l))) (sym (front so_far.bytes piece count input_limit (omega arith) within (omega (arith, so_far.budget))))
       (fed_append start c d s t u h i j m n o so_far.bytes (take (count - 1) piece) so_far.fed fed).answered;
 }
+
+-- how many bytes were taken, by how many more may be
+pub streamed_taken : (a b : Option (List ℕ)) (c : Cutting) (s t : Standing) (h i : Option (List ℕ)) (m n room : ℕ) → HasStreamed a b c s t h i m n room → c.taken + room ≡ input_limit + 1
+streamed_taken a b c s t h i m n room so_far = omega (arith, so_far.budget, ap (λ (x : Cutting). x.taken) so_far.fed.cutting, taken-cut start so_far.bytes)

@@ -3,7 +3,7 @@ use Rattle.std.specs.Prelude.{ℕ, Bool, true, false, pos, List, [], ◌∷◌, 
 use Rattle.std.specs.Fmt.{decimal}
 use Rattle.wl_exact.specs.Fraction.{of_int}
 use Rattle.wl_expr.specs.Tree.{Tree, num, symbol, node, from_list}
-use Rattle.wl_session.specs.Cells.{CellText, whole, too_long}
+use Rattle.wl_scan.specs.Cells.{CellText, PlacedCell, whole, too_long}
 use Rattle.wl_session.specs.Sums.{numbers}
 
 -- a line of the history: a cell as it was read, and its value
@@ -53,6 +53,10 @@ after s (answer text line) = record s { history = s.history ++ line ∷ [] }
 abbrev pub standing_after : Standing → List CellText → Standing
 standing_after s [] = s
 standing_after s (c ∷ cs) = standing_after (after s (outcome c)) cs
+
+-- cells without their places
+abbrev pub texts : List PlacedCell → List CellText
+texts cells = map (λ c. c.text) cells
 
 -- the bytes that are written for these further cells
 abbrev pub answers : Standing → List CellText → List ℕ

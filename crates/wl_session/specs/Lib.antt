@@ -1,6 +1,4 @@
 pub mod Answers
-pub mod Cell
-pub mod Cells
 pub mod Ends
 pub mod Pieces
 pub mod Place

@@ -2,8 +2,8 @@
 use Rattle.std.specs.Prelude.{◌≡◌, ◌≤◌, ◌+◌, ◌++◌, ℕ, List, length, take, Option, Result, Ok, Err, ⊤}
 use Rattle.std.specs.Io.KnownBytes.{Appends, Consumes, IsAtEnd}
 use Rattle.wl_ports.specs.Causes.{Rose}
-use Rattle.wl_session.specs.Answers.{Standing, standing_after, answers}
-use Rattle.wl_session.specs.Cells.{Cutting, CellText, cut, ended, remainder, start, cells}
+use Rattle.wl_session.specs.Answers.{Standing, standing_after, answers, texts}
+use Rattle.wl_scan.specs.Cells.{Cutting, CellText, cut, ended, start, cells}
 use Rattle.wl_session.specs.Transcript.{input_limit}
 use Rattle.wl_session.specs.declared.streaming.Stop.{Stop}
 use Rattle.wl_session.specs.declared.streaming.Stop.TheVariants.{ReadFault, WriteFault, OutOfMemory, TooLong}
@@ -17,7 +17,7 @@ pub record HasAnswered (s s' : Standing) (held held' : Option (List ℕ)) (begun
 -- these bytes were cut, and the cells that ended within them were answered
 pub record HasFed (c c' : Cutting) (s s' : Standing) (held held' : Option (List ℕ)) (begun begun' : ℕ) (bytes : List ℕ) : Type 0 where
   pub cutting : c' ≡ cut c bytes
-  pub answered : HasAnswered s s' held held' begun begun' (ended c bytes)
+  pub answered : HasAnswered s s' held held' begun begun' (texts (ended c bytes))
 
 -- the count of faults of `out` by how a call ends: it rises at a write fault alone
 abbrev pub OutIsBlamed : Result (Unit {0}) Stop → ℕ → ℕ → Type 0
@@ -41,21 +41,21 @@ pub record AnswersAll (left left' : Option (List ℕ)) (s s' : Standing) (held h
   pub taken : Consumes left left' bytes
   pub at_end : IsAtEnd left'
   pub few : length bytes ≤ input_limit
-  pub answered : HasAnswered s s' held held' begun begun' (cells bytes)
+  pub answered : HasAnswered s s' held held' begun begun' (texts (cells bytes))
 
 -- as many bytes were taken as are read, and the cells that ended within them were answered
 pub record AnswersSome (left left' : Option (List ℕ)) (s s' : Standing) (held held' : Option (List ℕ)) (begun begun' : ℕ) : Type 0 where
   pub bytes : List ℕ
   pub taken : Consumes left left' bytes
   pub few : length bytes ≤ input_limit
-  pub answered : HasAnswered s s' held held' begun begun' (ended start bytes)
+  pub answered : HasAnswered s s' held held' begun begun' (texts (ended start bytes))
 
 -- one byte too many was taken, and the cells that ended before it were answered
 pub record AnswersFirst (left left' : Option (List ℕ)) (s s' : Standing) (held held' : Option (List ℕ)) (begun begun' : ℕ) : Type 0 where
   pub bytes : List ℕ
   pub taken : Consumes left left' bytes
   pub many : length bytes ≡ input_limit + 1
-  pub answered : HasAnswered s s' held held' begun begun' (ended start (take input_limit bytes))
+  pub answered : HasAnswered s s' held held' begun begun' (texts (ended start (take input_limit bytes)))
 
 abbrev pub Answers : Result (Unit {0}) Stop → Option (List ℕ) → Option (List ℕ) → Standing → Standing → Option (List ℕ) → Option (List ℕ) → ℕ → ℕ → Type 0
 Answers (Ok done) left left' s s' held held' begun begun' = AnswersAll left left' s s' held held' begun begun'

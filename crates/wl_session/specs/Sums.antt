@@ -1,6 +1,6 @@
 -- The numbers of a cell that is numbers joined by `+`.
 use Rattle.std.specs.Prelude.{ℕ, Bool, true, false, List, [], ◌∷◌, ◌++◌, ◌+◌, ◌-◌, ◌*◌, ◌^◌, ◌==◌, ◌&&◌, nat_lt, nat_le, sum, Option, Some, None, option_map, option_and_then, if◌then◌else◌}
-use Rattle.wl_session.specs.Cells.{is_blank}
+use Rattle.wl_scan.specs.Characters.{is_blank, is_digit}
 
 -- the greatest number
 abbrev pub greatest : ℕ
@@ -11,9 +11,6 @@ pub data Place : Type 0 where
   wanted : Place
   within : ℕ → Place
   behind : ℕ → Place
-
-abbrev pub is_digit : ℕ → Bool
-is_digit b = nat_le 48 b && nat_le b 57
 
 -- the place behind one more digit, where the number doesn't grow too great
 abbrev pub grown : ℕ → ℕ → Option Place

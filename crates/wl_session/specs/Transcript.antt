@@ -1,7 +1,7 @@
 -- What a run writes and leaves, whatever the pieces that its source gives.
 use Rattle.std.specs.Prelude.{ℕ, Bool, true, false, List, [], ◌∷◌, ◌++◌, ◌==◌, length, take, nat_le, codes, Option, Some, None, if◌then◌else◌}
-use Rattle.wl_session.specs.Cells.{start, cells, ended}
-use Rattle.wl_session.specs.Answers.{HistoryLine, Standing, fresh, standing_after, answers}
+use Rattle.wl_scan.specs.Cells.{start, cells, ended}
+use Rattle.wl_session.specs.Answers.{HistoryLine, Standing, fresh, standing_after, answers, texts}
 
 -- the longest input that is read, in bytes
 abbrev pub input_limit : ℕ
@@ -25,13 +25,13 @@ pub record Transcript : Type 0 where
 -- all cells are answered: the status says whether one was refused
 abbrev pub answered : List ℕ → Transcript
 answered bytes =
-    let last = standing_after fresh (cells bytes) in
-    record { out = answers fresh (cells bytes); status = if last.refused then 1 else 0; history = last.history }
+    let last = standing_after fresh (texts (cells bytes)) in
+    record { out = answers fresh (texts (cells bytes)); status = if last.refused then 1 else 0; history = last.history }
 
 -- the input is too long: the cells that end within its first bytes are answered
 abbrev pub answered_in_part : List ℕ → Transcript
 answered_in_part bytes =
-    let first = ended start (take input_limit bytes) in
+    let first = texts (ended start (take input_limit bytes)) in
     record { out = answers fresh first; status = 6; history = (standing_after fresh first).history }
 
 -- of words that are read, or not, and the bytes of the source

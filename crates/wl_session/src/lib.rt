@@ -1,7 +1,6 @@
 //! The session: a notebook of cells is read, and each cell is answered.
 #![tactic(auto)]
 
-mod cells;
 mod ended;
 mod session;
 mod streaming;

@@ -4,18 +4,18 @@ ghost use Rattle.wl_exact.specs.Fraction.{of_int};
 ghost use Rattle.wl_expr.specs.Stamped.{plain};
 ghost use Rattle.wl_expr.specs.Tree.{num};
 ghost use Rattle.wl_session.specs.Answers.{Outcome, outcome, outcome_of_numbers, not_supported, shown, after, fresh, sum_tree};
-ghost use Rattle.wl_session.specs.Cell.{text_of};
-ghost use Rattle.wl_session.specs.Cells.{IsWithinCell};
+ghost use Rattle.wl_scan.specs.CellText.{cell_text};
+ghost use Rattle.wl_scan.specs.Cells.{IsWithinCell};
 ghost use Rattle.wl_session.specs.Sums.{greatest, numbers};
 ghost use Rattle.wl_session.specs.Sitting.{Sitting, standing};
 
-use crate::cells::Cell;
 use crate::sums::read_numbers;
 use std::alloc::Global;
 use std::marker::Model;
 use wl_exact::Num;
 use wl_expr::{Expr, ExprFault};
 use wl_ports::Memory;
+use wl_scan::Cell;
 
 /// A line of the history: a cell as it was read, and its value.
 #[derive(Drop)]
@@ -77,9 +77,9 @@ impl Session {
 
     /// Answers the next cell: its bytes are pending afterwards.
     pub(crate) fn answer(&mut self, alloc: Global, cell: Cell<'_>) -> Result<(), Memory>
-        requires { IsWithinCell (text_of cell) }
-        ensures standing { OnOk result (standing self.new ≡ after (standing self.old) (outcome (text_of cell.entry))) }
-        ensures pending { OnOk result (self.new.pending ≡ shown (length self.old.lines + 1) (outcome (text_of cell.entry))) }
+        requires { IsWithinCell (cell_text cell) }
+        ensures standing { OnOk result (standing self.new ≡ after (standing self.old) (outcome (cell_text cell.entry))) }
+        ensures pending { OnOk result (self.new.pending ≡ shown (length self.old.lines + 1) (outcome (cell_text cell.entry))) }
         ensures unchanged { OnErr result (self.new.lines ≡ self.old.lines) }
     {
         let numbers = match cell {

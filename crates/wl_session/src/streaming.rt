@@ -1,16 +1,17 @@
 //! A source is read in pieces, its bytes are cut into cells, and each cell is answered before more is read.
-ghost use Rattle.std.specs.Prelude.{◌≡◌, ◌≤◌, ◌<◌, ◌+◌, ◌++◌, ℕ, List, [], ◌∷◌, length, take, IfOk, OnOk, OnErr, IsTrue, MatchResult, Result, Ok, Err};
+ghost use Rattle.std.specs.Prelude.{◌≡◌, ◌≤◌, ◌<◌, ◌+◌, ◌^◌, ◌++◌, ℕ, List, [], ◌∷◌, length, take, IfOk, OnOk, OnErr, IsTrue, MatchResult, Result, Ok, Err};
 ghost use Rattle.std.specs.Io.KnownBytes.{Appends, Consumes, Keeps, IsAtEnd};
 ghost use Rattle.wl_ports.specs.Causes.{HasCause};
-ghost use Rattle.wl_session.specs.Cells.{start, remainder};
+ghost use Rattle.wl_scan.specs.Cells.{start, remainder, text_of};
+ghost use Rattle.wl_session.specs.Answers.{texts};
 ghost use Rattle.wl_session.specs.Pieces.{IsWrittenInPart};
 ghost use Rattle.wl_session.specs.Sitting.{standing};
 ghost use Rattle.wl_session.specs.Streaming.{HasAnswered, HasFed, OutIsBlamed, IsBlamed, Answers};
 
-use crate::cells::Cells;
 use crate::session::Session;
 use std::alloc::Global;
 use wl_ports::{Failed, Ledger, Memory, Sink, Source, Work};
+use wl_scan::Cells;
 
 /// The longest input that is read, in bytes.
 const INPUT_LIMIT: u64 = 1_073_741_824;
@@ -79,7 +80,7 @@ fn answer_cell<K: Sink, L: Ledger>(
     requires { IsTrue cells.now.told }
     ensures blamed { OutIsBlamed result (K.faults out.old) (K.faults out.new) }
     ensures answered { OnOk result (HasAnswered (standing session.old) (standing session.new)
-        (K.held out.old) (K.held out.new) (length work.old) (length work.new) (cells.now.kept ∷ [])) }
+        (K.held out.old) (K.held out.new) (length work.old) (length work.new) (text_of cells.now ∷ [])) }
 {
     work.mark();
     match session.answer(alloc, cells.cell()) {
@@ -101,6 +102,7 @@ fn feed<K: Sink, L: Ledger>(
     out: &mut K,
     work: &mut Work<L>,
 ) -> Result<(), Stop>
+    requires { cells.old.taken + length piece.now ≤ 2 ^ 62 }
     ensures blamed { OutIsBlamed result (K.faults out.old) (K.faults out.new) }
     ensures fed { OnOk result (HasFed cells.old cells.new (standing session.old) (standing session.new)
         (K.held out.old) (K.held out.new) (length work.old) (length work.new) piece.now) }
@@ -129,7 +131,7 @@ fn answer_rest<K: Sink, L: Ledger>(
 ) -> Result<(), Stop>
     ensures blamed { OutIsBlamed result (K.faults out.old) (K.faults out.new) }
     ensures answered { OnOk result (HasAnswered (standing session.old) (standing session.new)
-        (K.held out.old) (K.held out.new) (length work.old) (length work.new) (remainder cells.old)) }
+        (K.held out.old) (K.held out.new) (length work.old) (length work.new) (texts (remainder cells.old))) }
 {
     if !cells.finish() {
         return Ok(());

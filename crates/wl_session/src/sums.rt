@@ -34,7 +34,7 @@ fn grown(number: u128, digit: u8) -> Option<Place>
 fn step(place: Place, byte: u8) -> Option<Place>
     ensures { option_map place_of result ≡ stepped (place_of place) byte }
 {
-    let is_blank = matches!(byte, b' ' | b'\t' | b'\x0c' | b'\r');
+    let is_blank = matches!(byte, b' ' | b'\t' | b'\n' | b'\x0c' | b'\r');
     match place {
         Place::Wanted => match byte {
             b'0'..=b'9' => Some(Place::Within((byte - b'0') as u128)),

@@ -1,20 +1,20 @@
 //! The top call: a notebook is read from a source, and what its cells answer is written to a sink.
 ghost use Rattle.std.specs.Prelude.{◌≡◌, ◌≢◌, ◌≤◌, ◌<◌, ◌+◌, ◌↔◌, ◌⊎◌, ℕ, true, Option, Some, None, IsSome, IsNone, IfSome, OnOk, length, map, option_copied, string_bytes, Result, Ok, Err};
 ghost use Rattle.wl_ports.specs.Causes.{Rose, next_count};
-ghost use Rattle.wl_session.specs.Cells.{start, cells};
+ghost use Rattle.wl_scan.specs.Cells.{start, cells};
 ghost use Rattle.wl_session.specs.Ends.{IsTold, IsTranscript, IsFaultless, IsReadToEnd, HasTaken, HasRisen, status_of};
 ghost use Rattle.wl_session.specs.Sitting.{standing};
 ghost use Rattle.wl_session.specs.Streaming.{IsBlamed, Answers};
 ghost use Rattle.wl_session.specs.Transcript.{line_for, transcript, input_limit};
 ghost use Rattle.wl_session.specs.Words.{asked, words_of};
 
-use crate::cells::Cells;
 use crate::ended::Ended;
 use crate::session::Session;
 use crate::streaming::{Stop, stream, write_whole};
 use crate::words::asked;
 use std::alloc::Global;
 use wl_ports::{Failed, Ledger, Sink, Source, Work};
+use wl_scan::Cells;
 
 /// Opens the source, answers its cells, and flushes what was written.
 fn play<S: Source, K: Sink, L: Ledger>(

@@ -1,8 +1,7 @@
 use Rattle.std.proofs.lemmas.Grind.{common_steps}
-use Rattle.std.proofs.Common.{arith, ◌∙◌}
+use Rattle.std.proofs.Common.{◌≡◌, ◌≤◌, ◌+◌, ◌-◌, length, take, drop, arith, ◌∙◌}
 use Rattle.wl_session.proofs.Pieces.{taken_on}
-use Rattle.wl_session.proofs.Cutting.{told_of, told_of_none}
-use Rattle.wl_session.proofs.Answering.{fed_on, fed_cell}
+use Rattle.wl_session.proofs.Answering.{fed_on, fed_cell, fed_taken, told_of, told_of_none}
 use Rattle.wl_session.proofs.streaming.feed.Goals as goal
 
 pub loop-at-preserved-in-Ok : goal.loop-at-preserved-in-Ok
@@ -11,7 +10,7 @@ loop-at-preserved-in-Ok g c =
     record {
       within = grind (arith, common_steps, fed.within);
       quiet = c.in-Ok.ensures.blamed ∙ c.loop-at.invariant.quiet;
-      fed = fed_cell _ _ _ _ _ _ _ _ _ _ _ _ _ _ _ _ c.loop-at.invariant.fed fed.state (told_of _ _ _ fed.cells c.if-fed.true) c.in-Ok.ensures.answered (taken_on _ _ _);
+      fed = fed_cell _ _ _ _ _ _ _ _ _ _ _ _ _ _ _ _ c.loop-at.invariant.fed fed.after (told_of _ _ _ fed.told c.if-fed.true) c.in-Ok.ensures.answered (taken_on _ _ _);
     }
 
 pub loop-at-preserved : goal.loop-at-preserved
@@ -20,5 +19,12 @@ loop-at-preserved g c =
     record {
       within = grind (arith, common_steps, fed.within);
       quiet = c.loop-at.invariant.quiet;
-      fed = fed_on _ _ _ _ _ _ _ _ _ _ _ _ c.loop-at.invariant.fed fed.state (told_of_none _ _ _ fed.cells c.if-fed.false) (taken_on _ _ _);
+      fed = fed_on _ _ _ _ _ _ _ _ _ _ _ _ c.loop-at.invariant.fed fed.after (told_of_none _ _ _ fed.told c.if-fed.false) (taken_on _ _ _);
     }
+
+pub feed-fed-requires : goal.feed-fed-requires
+feed-fed-requires g c =
+    let so_far = c.loop-at.invariant in
+    let taken = fed_taken _ _ _ _ _ _ _ _ _ so_far.fed in
+    let lengths : length (take c.loop-at.at c.args.piece.now) + length (take (length c.args.piece.now - c.loop-at.at) (drop c.loop-at.at c.args.piece.now)) ≤ length c.args.piece.now = grind (arith, common_steps, so_far.within) in
+    omega (arith, taken, lengths, c.requires)

@@ -1,6 +1,7 @@
-use Rattle.std.proofs.Common.{◌≡◌, ◌<◌, ◌-◌, arith, ◌∙◌}
+use Rattle.std.proofs.lemmas.Grind.{common_steps}
+use Rattle.std.proofs.Common.{◌≤◌, ◌+◌, ◌^◌, length, take, ◌≡◌, ◌<◌, ◌-◌, arith, ◌∙◌}
 use Rattle.std.proofs.lemmas.List.{length-take-le}
-use Rattle.wl_session.proofs.Streams.{streamed_on, streamed_all, streamed_first}
+use Rattle.wl_session.proofs.Streams.{streamed_on, streamed_all, streamed_first, streamed_taken}
 use Rattle.wl_session.proofs.streaming.stream.Goals as goal
 
 pub returns-in-Ok-answer_rest-clause-answers : goal.returns-in-Ok-answer_rest-clause-answers
@@ -29,3 +30,16 @@ pieces-preserved g c =
       streamed =
           streamed_on _ _ _ _ _ _ _ _ _ _ _ _ _ _ _ _ _ _ so_far.streamed ensured.bytes c.in-Ok-feed-2.ensures.fed (length-take-le _ _ ensured.bound) (omega (arith, ensured.within));
     }
+
+pub feed-requires : goal.feed-requires
+feed-requires g c =
+    let ensured = c.in-Ok.ensures in
+    let budget = streamed_taken _ _ _ _ _ _ _ _ _ _ c.pieces.invariant.streamed in
+    let few : length (take (c.in-Ok.count - 1) c.read_piece.new.piece) ≤ c.in-Ok.count = grind (arith, common_steps, ensured.bound) in
+    omega (arith, ensured.within, budget, few)
+
+pub feed-requires-in-pieces : goal.feed-requires-in-pieces
+feed-requires-in-pieces g c =
+    let ensured = c.in-Ok.ensures in
+    let budget = streamed_taken _ _ _ _ _ _ _ _ _ _ c.pieces.invariant.streamed in
+    omega (arith, ensured.within, budget, length-take-le _ _ ensured.bound)
