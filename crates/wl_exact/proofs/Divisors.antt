@@ -1,8 +1,8 @@
 -- The greatest common divisor, and numbers without a common divisor.
-use Rattle.std.proofs.Common.{◌≡◌, ℕ, zero, suc, ◌*◌, ◌-◌, ◌/◌, ◌%◌, ◌^◌, ◌<◌, ◌≤◌, ◌⊎◌, inl, inr, refl, sym, ◌∙◌, ap, subst, arith}
-use Rattle.std.proofs.Math.Nat.{mul_comm, mul_assoc, mul-sub, mul-zero, mul-one, mod-eq-sub-mul-div, mul-div-mul_left, mod-lt, eq-zero-or-pos, dvd_refl, dvd_trans, dvd-mul_left, dvd-mul_right, dvd-one, one-dvd, eq-one_of_dvd-one, dvd_of_mul-dvd-mul_left, mul-div_cancel', eq_of_mul-eq-mul_left, pow-zero, pow-suc, pos_of_dvd_of_pos, le_of_dvd, dvd-zero}
+use Rattle.std.proofs.Common.{◌≡◌, ℕ, zero, suc, ◌*◌, ◌-◌, ◌/◌, ◌%◌, ◌^◌, ◌<◌, ◌≤◌, refl, sym, ◌∙◌, ap, subst, arith}
+use Rattle.std.proofs.Math.Nat.{mul_comm, mul_assoc, mul-sub, mul-zero, mul-one, mod-eq-sub-mul-div, mul-div-mul_left, mod-lt, dvd_refl, dvd_trans, dvd-mul_left, eq-one_of_dvd-one, mul-div_cancel', eq_of_mul-eq-mul_left, pow-zero, pow-suc, pos_of_dvd_of_pos, le_of_dvd, dvd-zero}
 use Rattle.std.specs.Int.{◌∣◌, IsGcd}
-use Rattle.std.proofs.lemmas.Nat.Gcd.{IsGcd-from_zero, IsGcd-from_mod, IsGcd-swap, same_from_IsGcd, dvd_antisymm}
+use Rattle.std.proofs.lemmas.Nat.Gcd.{IsGcd-from_zero, IsGcd-from_mod, IsGcd-swap, same_from_IsGcd}
 use Rattle.wl_exact.specs.Gcd.{gcd, gcd_within}
 
 -- ---- the greatest common divisor is what its name says
@@ -19,6 +19,12 @@ gcd_is a b = gcd_within_is b a b (omega arith)
 
 pub gcd_from : (a b g : ℕ) → IsGcd a b g → g ≡ gcd a b
 gcd_from a b g h = same_from_IsGcd a b g (gcd a b) h (gcd_is a b)
+
+pub gcd_zero : (a b : ℕ) → b ≡ 0 → gcd a b ≡ a
+gcd_zero a b e = sym (gcd_from a b a (IsGcd-from_zero a b e))
+
+pub gcd_step : (a b : ℕ) → gcd b (a % b) ≡ gcd a b
+gcd_step a b = gcd_from a b (gcd b (a % b)) (IsGcd-from_mod a b (gcd b (a % b)) (gcd_is b (a % b)))
 
 pub gcd_comm : (a b : ℕ) → gcd a b ≡ gcd b a
 gcd_comm a b = gcd_from b a (gcd a b) (IsGcd-swap a b (gcd a b) (gcd_is a b))

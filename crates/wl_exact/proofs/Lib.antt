@@ -2,3 +2,9 @@ pub mod Rows
 pub mod Divisors
 pub mod Integers
 pub mod LowestTerms
+pub mod Sums
+pub mod Products
+pub mod Powers
+pub mod Formed
+pub mod Order
+pub mod Division

@@ -1,36 +1,48 @@
--- Worked rows, of which each side computes.
-use Rattle.std.specs.Prelude.{ℕ, ℤ, pos, negsuc, ◌≡◌, refl, ◌^◌, ◌-◌, Ok, Err, true, false}
-use Rattle.std.specs.declared.cmp.Ordering.TheVariants.{Less, Equal, Greater}
+-- Worked rows: both sides compute to the same. The values are Python's.
+use Rattle.std.specs.Prelude.{pos, negsuc, ◌≡◌, refl, ◌^◌, ◌-◌, Ok, Err}
+use Rattle.std.specs.declared.cmp.Ordering.TheVariants.{Greater}
 use Rattle.wl_exact.specs.Fraction.{of_int, reduced}
-use Rattle.wl_exact.specs.Arithmetic.{checked_sum, checked_product, checked_power, checked_ratio, checked_quotient, checked_remainder, gcd_of, floor_of, fraction_cmp, negation_of, power_of}
+use Rattle.wl_exact.specs.Arithmetic.{checked_sum, checked_product, checked_power, checked_ratio, checked_quotient, checked_remainder, fraction_cmp, gcd_of, floor_of}
 use Rattle.wl_exact.specs.declared.num.NumFault.TheVariants.{Overflow, ZeroDivisor}
 
-r1 : checked_sum (reduced (pos 1) (2 ^ 100)) (reduced (pos 1) (2 ^ 100)) ≡ Ok (record { num = pos 1; den = 2 ^ 99 })
-r1 = refl
+sum_of_small_parts : checked_sum (reduced (pos 1) (2 ^ 100)) (reduced (pos 1) (2 ^ 100)) ≡ Ok (record { num = pos 1; den = 2 ^ 99 })
+sum_of_small_parts = refl
 
-r2 : checked_sum (of_int (pos (2 ^ 126))) (reduced (negsuc (2 ^ 127 - 2)) 2) ≡ Err Overflow
-r2 = refl
+sum_past_the_range : checked_sum (of_int (pos (2 ^ 126))) (reduced (negsuc (2 ^ 127 - 2)) 2) ≡ Err Overflow
+sum_past_the_range = refl
 
-r3 : checked_ratio (pos 6) (negsuc 3) ≡ Ok (record { num = negsuc 2; den = 2 })
-r3 = refl
+ratio_by_a_negative : checked_ratio (pos 6) (negsuc 3) ≡ Ok (record { num = negsuc 2; den = 2 })
+ratio_by_a_negative = refl
 
-r4 : checked_ratio (negsuc 5) (negsuc 3) ≡ Ok (record { num = pos 3; den = 2 })
-r4 = refl
+ratio_of_negatives : checked_ratio (negsuc 5) (negsuc 3) ≡ Ok (record { num = pos 3; den = 2 })
+ratio_of_negatives = refl
 
-r5 : checked_quotient (of_int (negsuc 6)) (of_int (pos 2)) ≡ Ok (of_int (negsuc 3))
-r5 = refl
+quotient_of_a_negative : checked_quotient (of_int (negsuc 6)) (of_int (pos 2)) ≡ Ok (of_int (negsuc 3))
+quotient_of_a_negative = refl
 
-r6 : checked_remainder (of_int (pos 7)) (of_int (negsuc 1)) ≡ Ok (of_int (negsuc 0))
-r6 = refl
+remainder_by_a_negative : checked_remainder (of_int (pos 7)) (of_int (negsuc 1)) ≡ Ok (of_int (negsuc 0))
+remainder_by_a_negative = refl
 
-r7 : checked_power (reduced (negsuc 1) 3) (negsuc 2) ≡ Ok (record { num = negsuc 26; den = 8 })
-r7 = refl
+power_below_zero : checked_power (reduced (negsuc 1) 3) (negsuc 2) ≡ Ok (record { num = negsuc 26; den = 8 })
+power_below_zero = refl
 
-r8 : fraction_cmp (reduced (negsuc 1) 3) (reduced (negsuc 2) 4) ≡ Greater
-r8 = refl
+order_of_negatives : fraction_cmp (reduced (negsuc 1) 3) (reduced (negsuc 2) 4) ≡ Greater
+order_of_negatives = refl
 
-r9 : checked_power (of_int (pos 2)) (pos 127) ≡ Err Overflow
-r9 = refl
+power_past_the_range : checked_power (of_int (pos 2)) (pos 127) ≡ Err Overflow
+power_past_the_range = refl
 
-r10 : checked_product (reduced (pos 2) 3) (reduced (negsuc 2) 4) ≡ Ok (record { num = negsuc 0; den = 2 })
-r10 = refl
+product_cancelled : checked_product (reduced (pos 2) 3) (reduced (negsuc 2) 4) ≡ Ok (record { num = negsuc 0; den = 2 })
+product_cancelled = refl
+
+power_in_range : checked_power (of_int (negsuc 1)) (pos 126) ≡ Ok (of_int (pos (2 ^ 126)))
+power_in_range = refl
+
+power_of_zero : checked_power (of_int (pos 0)) (negsuc 0) ≡ Err ZeroDivisor
+power_of_zero = refl
+
+gcd_of_negatives : gcd_of (of_int (negsuc 11)) (of_int (negsuc 17)) ≡ of_int (pos 6)
+gcd_of_negatives = refl
+
+floor_of_a_negative : floor_of (record { num = negsuc 6; den = 2 }) ≡ of_int (negsuc 3)
+floor_of_a_negative = refl

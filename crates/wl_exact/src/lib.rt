@@ -3,5 +3,9 @@
 
 pub mod laws;
 mod num;
+mod whole;
 
 pub use num::{Num, NumFault};
+
+#[cfg(test)]
+mod tests;

@@ -1,7 +1,9 @@
 -- The plain trees of a list of elements, and their size against the whole.
-use Rattle.std.proofs.Common.{◌≡◌, ℕ, zero, suc, ◌≤◌, ◌<◌, List, [], ◌∷◌, ◌++◌, length, get_or, map, refl, ap, arith}
+use Rattle.std.proofs.Common.{◌≡◌, ℕ, ◌+◌, max, zero, suc, ◌≤◌, ◌<◌, List, [], ◌∷◌, ◌++◌, length, get_or, map, refl, sym, ◌∙◌, ap, arith}
+use Rattle.std.proofs.lemmas.List.Sums.{sum_by-cons}
+use Rattle.std.specs.List.{sum_by}
 use Rattle.wl_expr.specs.Tree as tree
-use Rattle.wl_expr.specs.Tree.{Tree, node, to_list, weight, weights, depths}
+use Rattle.wl_expr.specs.Tree.{Tree, Trees, node, to_list, weight, weights, depths}
 use Rattle.wl_expr.specs.Fold.{Cases, fold, folds}
 use Rattle.wl_expr.specs.Stamped.{Stamped, from_list, plain, plains, depth}
 
@@ -25,10 +27,27 @@ pub to_list_plains : (ts : List Stamped) → to_list (plains (from_list ts)) ≡
 to_list_plains [] = refl
 to_list_plains (t ∷ ts) = ap (λ us. plain t ∷ us) (to_list_plains ts)
 
+pub length_to_list_plains : (ts : List Stamped) → length (to_list (plains (from_list ts))) ≡ length ts
+length_to_list_plains [] = refl
+length_to_list_plains (t ∷ ts) = ap suc (length_to_list_plains ts)
+
 -- one more at the end
 pub plains_push : (ts : List Stamped) (t : Stamped) → plains (from_list (ts ++ t ∷ [])) ≡ tree.push (plains (from_list ts)) (plain t)
 plains_push [] t = refl
 plains_push (u ∷ ts) t = ap (λ us. tree.more (plain u) us) (plains_push ts t)
+
+-- the weight and the depth of a list of trees
+pub weights_from_list : (ts : List Tree) → weights (tree.from_list ts) ≡ sum_by weight ts
+weights_from_list [] = refl
+weights_from_list (t ∷ ts) = ap (λ n. weight t + n) (weights_from_list ts) ∙ sym (sum_by-cons weight t ts)
+
+pub weights_push : (ts : Trees) (t : Tree) → weights (tree.push ts t) ≡ weights ts + weight t
+weights_push tree.none t = omega arith
+weights_push (tree.more u ts) t = omega (arith, weights_push ts t)
+
+pub depths_push : (ts : Trees) (t : Tree) → depths (tree.push ts t) ≡ max (depths ts) (tree.depth t)
+depths_push tree.none t = omega arith
+depths_push (tree.more u ts) t = omega (arith, depths_push ts t)
 
 -- what a fold gives at the elements, one by one
 pub folds_plains : {A : Type 0} (c : Cases A) (ts : List Stamped) → folds c (plains (from_list ts)) ≡ map (fold c) (map plain ts)

@@ -6,3 +6,5 @@ pub mod Falls
 pub mod Look
 pub mod Passed
 pub mod Fold
+pub mod Order
+pub mod OrderLaws

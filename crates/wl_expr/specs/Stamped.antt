@@ -71,15 +71,15 @@ abbrev mutual
   unstampeds (tree.more t ts) = more (unstamped t) (unstampeds ts)
 
 mutual
-  pub plain-unstamped : (t : Tree) → plain (unstamped t) ≡ t
-  plain-unstamped (tree.num n) = refl
-  plain-unstamped (tree.text s) = refl
-  plain-unstamped (tree.symbol s) = refl
-  plain-unstamped (tree.node h ts) = λ i. tree.node (plain-unstamped h i) (plains-unstampeds ts i)
+  pub plain_unstamped : (t : Tree) → plain (unstamped t) ≡ t
+  plain_unstamped (tree.num n) = refl
+  plain_unstamped (tree.text s) = refl
+  plain_unstamped (tree.symbol s) = refl
+  plain_unstamped (tree.node h ts) = λ i. tree.node (plain_unstamped h i) (plains_unstampeds ts i)
 
-  pub plains-unstampeds : (ts : Trees) → plains (unstampeds ts) ≡ ts
-  plains-unstampeds tree.none = refl
-  plains-unstampeds (tree.more t ts) = λ i. tree.more (plain-unstamped t i) (plains-unstampeds ts i)
+  pub plains_unstampeds : (ts : Trees) → plains (unstampeds ts) ≡ ts
+  plains_unstampeds tree.none = refl
+  plains_unstampeds (tree.more t ts) = λ i. tree.more (plain_unstamped t i) (plains_unstampeds ts i)
 
 -- how the checker tells stamps, stamped trees and plain trees apart
 abbrev pub stamp_code : Coded Stamp
@@ -120,4 +120,4 @@ abbrev pub stamped_code : Coded Stamped
 stamped_code = record { code = code; inj = code_inj }
 
 abbrev pub tree_code : Coded Tree
-tree_code = code_by Stamped stamped_code unstamped plain plain-unstamped
+tree_code = code_by Stamped stamped_code unstamped plain plain_unstamped

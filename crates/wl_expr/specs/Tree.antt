@@ -22,13 +22,13 @@ abbrev pub from_list : List Tree → Trees
 from_list [] = none
 from_list (t ∷ ts) = more t (from_list ts)
 
-pub to_list-from_list : (ts : List Tree) → to_list (from_list ts) ≡ ts
-to_list-from_list [] = refl
-to_list-from_list (t ∷ ts) = ap (λ us. t ∷ us) (to_list-from_list ts)
+pub to_list_from_list : (ts : List Tree) → to_list (from_list ts) ≡ ts
+to_list_from_list [] = refl
+to_list_from_list (t ∷ ts) = ap (λ us. t ∷ us) (to_list_from_list ts)
 
-pub from_list-to_list : (ts : Trees) → from_list (to_list ts) ≡ ts
-from_list-to_list none = refl
-from_list-to_list (more t ts) = ap (λ us. more t us) (from_list-to_list ts)
+pub from_list_to_list : (ts : Trees) → from_list (to_list ts) ≡ ts
+from_list_to_list none = refl
+from_list_to_list (more t ts) = ap (λ us. more t us) (from_list_to_list ts)
 
 -- a number weighs 1, a text and a symbol 1 and their bytes, a node what its head and elements weigh
 abbrev mutual

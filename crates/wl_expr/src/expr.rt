@@ -1,7 +1,8 @@
 //! The expression: a handle of a shared tree.
-ghost use Rattle.std.specs.Prelude.{◌≡◌, ◌≤◌, ◌↔◌, IsTrue, Some, None, IfOk, option_map, List, ◌+◌, min};
+ghost use Rattle.std.specs.Prelude.{◌≡◌, ◌≤◌, ◌↔◌, IsTrue, None, IfOk, option_map, List, ◌+◌, min};
 ghost use Rattle.std.specs.List.{All};
-ghost use Rattle.wl_expr.specs.Look.{looked, plain_look, LookIsFrom};
+ghost use Rattle.wl_expr.specs.Look.{looked, plain_look, LookIsProper, LookIsFrom};
+ghost use Rattle.wl_expr.specs.Order.{canonical_order};
 ghost use Rattle.wl_expr.specs.Passed.{IsFrom};
 ghost use Rattle.wl_expr.specs.Proper.{IsProper};
 ghost use Rattle.wl_expr.specs.Stamped.{Stamped, num, text, symbol, node, from_list, plain, plains, stamp_of, MayCarryStamp, with_stamp};
@@ -11,9 +12,11 @@ ghost use Rattle.wl_ports.specs.Name.{IsName};
 
 use crate::fault::ExprFault;
 use crate::look::Look;
+use crate::order::canonical_order;
 use crate::same::same_tree;
 use crate::stamp::Stamp;
 use std::alloc::Global;
+use std::cmp::Ordering;
 use std::marker::Model;
 use std::rc::Rc;
 use wl_exact::Num;
@@ -85,14 +88,12 @@ impl Expr {
     {
         // That a number is in lowest terms and in range is a clause of `num`.
         let _num = n.num();
-        let body = Rc::new(
-            alloc,
-            Body {
-                weight: 1,
-                depth: 1,
-                shape: Shape::Number(n),
-            },
-        )?;
+        let leaf = Body {
+            weight: 1,
+            depth: 1,
+            shape: Shape::Number(n),
+        };
+        let body = Rc::new(alloc, leaf)?;
         Ok(Expr { stamp: None, body })
     }
 
@@ -104,14 +105,12 @@ impl Expr {
         if len >= MAX_WEIGHT {
             return Err(ExprFault::Large);
         }
-        let body = Rc::new(
-            alloc,
-            Body {
-                weight: 1 + len,
-                depth: 1,
-                shape: Shape::Text(String::from_str(alloc, s)?),
-            },
-        )?;
+        let leaf = Body {
+            weight: 1 + len,
+            depth: 1,
+            shape: Shape::Text(String::from_str(alloc, s)?),
+        };
+        let body = Rc::new(alloc, leaf)?;
         Ok(Expr { stamp: None, body })
     }
 
@@ -124,14 +123,12 @@ impl Expr {
         if len >= MAX_WEIGHT {
             return Err(ExprFault::Large);
         }
-        let body = Rc::new(
-            alloc,
-            Body {
-                weight: 1 + len,
-                depth: 1,
-                shape: Shape::Symbol(String::from_str(alloc, name)?),
-            },
-        )?;
+        let leaf = Body {
+            weight: 1 + len,
+            depth: 1,
+            shape: Shape::Symbol(String::from_str(alloc, name)?),
+        };
+        let body = Rc::new(alloc, leaf)?;
         Ok(Expr { stamp: None, body })
     }
 
@@ -150,24 +147,22 @@ impl Expr {
         }
         let head = head.copy()?;
         let args = copy_all(alloc, args)?;
-        let body = Rc::new(
-            alloc,
-            Body {
-                weight,
-                depth: 1 + below,
-                shape: Shape::Node(head, args),
-            },
-        )?;
+        let node = Body {
+            weight,
+            depth: 1 + below,
+            shape: Shape::Node(head, args),
+        };
+        let body = Rc::new(alloc, node)?;
         Ok(Expr { stamp: None, body })
     }
 
     /// One level of the expression.
-    #[tactic(auto, using(crate::proofs::Passing::head_from, crate::proofs::Passing::args_from))]
+    #[tactic(auto, using(crate::proofs::Passing::head_from, crate::proofs::Passing::args_from, crate::proofs::Properness::all_proper))]
     pub fn view(&self) -> Look<'_>
         ensures all { looked (stamp_of self.now) result ≡ self.now }
         ensures plain { plain_look result ≡ plain self.now }
         ensures fits { IsWithinLimits (plain self.now) }
-        ensures proper { IsProper (plain self.now) }
+        ensures proper { LookIsProper result }
         ensures passed { (ms : List Stamped) → IsFrom ms self.now → LookIsFrom ms result }
     {
         match &self.body.shape {
@@ -200,6 +195,14 @@ impl Expr {
         ensures { IsTrue result ↔ (plain self.now ≡ plain b.now) }
     {
         same_tree(self, b)
+    }
+
+    /// The canonical order, stamps apart: numbers by value, then texts, then the rest by their factors, from the last one
+    /// backwards, and then by structure.
+    pub fn order(&self, b: &Expr) -> Ordering
+        ensures { result ≡ canonical_order (plain self.now) (plain b.now) }
+    {
+        canonical_order(self, b)
     }
 
     /// The same tree with the same stamps, which it shares.

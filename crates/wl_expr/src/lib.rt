@@ -4,7 +4,9 @@
 mod applied;
 mod expr;
 mod fault;
+pub mod laws;
 mod look;
+mod order;
 mod same;
 mod stamp;
 
@@ -13,3 +15,6 @@ pub use expr::{Expr, MAX_DEPTH, MAX_WEIGHT, copy_all};
 pub use fault::ExprFault;
 pub use look::Look;
 pub use stamp::{ReadList, Stamp};
+
+#[cfg(test)]
+mod tests;

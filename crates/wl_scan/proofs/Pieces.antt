@@ -9,7 +9,8 @@ use Rattle.std.specs.List.{concat}
 use Rattle.wl_scan.specs.Characters.{is_blank}
 use Rattle.wl_scan.specs.Places.{beginning, is_code, is_end, after, run_length, run_place, nesting}
 use Rattle.wl_scan.specs.declared.place.Place.{Place}
-use Rattle.wl_scan.specs.Cells.{Cutting, PlacedCell, IsCutting, cell_limit, between, start, renewed, taken_in, cut, ended, told_cell, shown, remainder, told_by, cells, blank_length, IsWithin}
+use Rattle.wl_scan.specs.Cells.{Cutting, PlacedCell, IsCutting, cell_limit, between, start, renewed, taken_in, cut, ended, told_cell, shown, remainder, told_by, cells, IsWithin}
+use Rattle.wl_scan.specs.Lengths.{blank_length}
 
 -- what the bytes of two pieces do is what the one and then the other does
 pub cut_append : (c : Cutting) (xs ys : List ℕ) → cut c (xs ++ ys) ≡ cut (cut c xs) ys
@@ -32,6 +33,11 @@ told_by_is c (p ∷ ps) =
 
 -- before a cell
 
+-- the blanks at the start, where the first byte is blank and where it isn't
+blanks_more : (b : ℕ) (bs : List ℕ) (P : ℕ → Type 0) → (is_blank b ≡ true → P (suc (blank_length bs))) → (is_blank b ≡ false → P 0) → P (blank_length (b ∷ bs))
+blanks_more b bs P more none =
+    cond_both (is_blank b) (1 + blank_length bs) 0 P (λ e. subst P (omega arith) (more e)) none
+
 not_end-beginning : (b : ℕ) → is_end beginning b ≡ false
 not_end-beginning b = and_right (((b == 10) && true) && true) false refl
 
@@ -42,7 +48,7 @@ pub cut_blanks : (n : ℕ) (bs : List ℕ)
     → (cut (between n) (take (blank_length bs) bs) ≡ between (n + blank_length bs)) × (ended (between n) (take (blank_length bs) bs) ≡ [])
 cut_blanks n [] = (ap between (sym (add-zero n)), refl)
 cut_blanks n (b ∷ bs) =
-    cond_both (is_blank b) (suc (blank_length bs)) 0
+    blanks_more b bs
     (λ (m : ℕ). (cut (between n) (take m (b ∷ bs)) ≡ between (n + m)) × (ended (between n) (take m (b ∷ bs)) ≡ []))
     (λ blank.
     let next = taken_blank n b blank in
@@ -53,17 +59,11 @@ cut_blanks n (b ∷ bs) =
     ))
     (λ _. (ap between (sym (add-zero n)), refl))
 
-pub blank_length-within : (bs : List ℕ) → blank_length bs ≤ length bs
-blank_length-within [] = omega arith
-blank_length-within (b ∷ bs) =
-    let rest = blank_length-within bs in
-    cond_both (is_blank b) (suc (blank_length bs)) 0 (λ (m : ℕ). m ≤ length (b ∷ bs)) (λ _. omega arith) (λ _. omega arith)
-
 -- behind the blanks no blank follows
 pub blank_length-behind : (bs : List ℕ) → blank_length (drop (blank_length bs) bs) ≡ 0
 blank_length-behind [] = refl
 blank_length-behind (b ∷ bs) =
-    cond_both (is_blank b) (suc (blank_length bs)) 0 (λ (m : ℕ). blank_length (drop m (b ∷ bs)) ≡ 0)
+    blanks_more b bs (λ (m : ℕ). blank_length (drop m (b ∷ bs)) ≡ 0)
     (λ _. blank_length-behind bs) (λ e. cond-false (is_blank b) _ _ e)
 
 -- within a cell
@@ -91,7 +91,7 @@ no_blank_before : (k bs : List ℕ) (b : ℕ) → (0 < length k) ⊎ (blank_leng
 no_blank_before k bs b (inl begun) = and_left (length k == 0) (is_blank b) (ne_eqb (length k) 0 (λ e. omega (arith, e, begun)))
 no_blank_before k bs b (inr none) =
     and_right (length k == 0) (is_blank b)
-    (false_from_ne_true (is_blank b) (λ e. let some : suc (blank_length bs) ≡ 0 = sym (cond-true (is_blank b) (suc (blank_length bs)) 0 e) ∙ none in omega (arith, some)))
+    (false_from_ne_true (is_blank b) (λ e. let some : 1 + blank_length bs ≡ 0 = sym (cond-true (is_blank b) (1 + blank_length bs) 0 e) ∙ none in omega (arith, some)))
 
 -- the present cell after a run of bytes that don't end it
 abbrev pub ran : ℕ → Place → List ℕ → Bool → ℕ → List ℕ → Cutting

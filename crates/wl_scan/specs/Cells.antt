@@ -1,7 +1,8 @@
 -- The cells of a text: this project's own rules.
-use Rattle.std.specs.Prelude.{ℕ, suc, ◌+◌, ◌-◌, ◌*◌, ◌^◌, ◌≤◌, ◌<◌, ◌⊎◌, ◌≡◌, ◌==◌, Bool, true, false, ◌&&◌, ◌||◌, nat_lt, if◌then◌else◌, Option, None, Some, List, [], ◌∷◌, ◌++◌, length, take, ⊤}
+use Rattle.std.specs.Prelude.{ℕ, ◌+◌, ◌-◌, ◌*◌, ◌^◌, ◌≤◌, ◌<◌, ◌⊎◌, ◌≡◌, ◌==◌, Bool, true, false, ◌&&◌, ◌||◌, nat_lt, if◌then◌else◌, Option, None, Some, List, [], ◌∷◌, ◌++◌, length, take, ⊤}
 use Rattle.wl_scan.specs.Characters.{is_blank}
 use Rattle.wl_scan.specs.Places.{beginning, after, is_end, is_rest, nesting}
+use Rattle.wl_scan.specs.Lengths.{blank_length}
 use Rattle.wl_scan.specs.declared.place.Place.{Place}
 
 -- how many bytes a cell may have
@@ -100,11 +101,6 @@ pub record IsCutting (c : Cutting) : Type 0 where
   pub nesting : nesting c.place.region ≤ c.taken
   pub taken : c.taken ≤ 2 ^ 62
   pub begun : length c.kept ≡ 0 → c ≡ between c.taken
-
--- how many blanks these bytes begin with
-abbrev pub blank_length : List ℕ → ℕ
-blank_length [] = 0
-blank_length (b ∷ bs) = if is_blank b then suc (blank_length bs) else 0
 
 -- what comes next belongs to a cell: one has begun, or no blank follows
 abbrev pub IsWithin : Cutting → List ℕ → Type 0

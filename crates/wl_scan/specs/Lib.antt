@@ -3,3 +3,7 @@ pub mod Places
 pub mod Cells
 pub mod CellText
 pub mod Laws
+pub mod Lengths
+pub mod Tokens
+pub mod Scanning
+pub mod TokenParts

@@ -36,6 +36,13 @@ after_comment n b = if b == byte "(" then CommentOpening n else (if b == byte "*
 abbrev pub outside : ℕ → Region
 outside n = if n == 1 then Code else Comment (n - 1)
 
+-- after a byte in a comment
+abbrev pub in_comment : Region → ℕ → Region
+in_comment (Comment n) b = after_comment n b
+in_comment (CommentOpening n) b = if b == byte "*" then Comment (n + 1) else after_comment n b
+in_comment (CommentClosing n) b = if b == byte ")" then outside n else after_comment n b
+in_comment region b = region
+
 -- after a byte, by cases on where it stands
 abbrev pub after_in : Region → Place → ℕ → Place
 after_in Code p b = after_code p b
@@ -45,9 +52,7 @@ after_in Quoted p b =
     else (if b == byte "\\" then record (seen p b) { region = Escape }
     else seen p b)
 after_in Escape p b = record (seen p b) { region = Quoted }
-after_in (Comment n) p b = record p { region = after_comment n b }
-after_in (CommentOpening n) p b = record p { region = if b == byte "*" then Comment (n + 1) else after_comment n b }
-after_in (CommentClosing n) p b = record p { region = if b == byte ")" then outside n else after_comment n b }
+after_in region p b = record p { region = in_comment region b }
 
 abbrev pub after : Place → ℕ → Place
 after p b = after_in p.region p b

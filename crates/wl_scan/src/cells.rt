@@ -1,10 +1,10 @@
 //! The cutting of bytes into cells, in pieces of any size.
 ghost use Rattle.std.specs.Prelude.{◌≡◌, ◌+◌, ◌≤◌, ◌<◌, ◌^◌, ◌++◌, [], ◌∷◌, true, false, length, take, drop, slice_index, if◌then◌else◌, IsTrue, IfOk, None};
-ghost use Rattle.wl_scan.specs.Cells.{IsWithinCell, start, renewed, cut, ended, finished, remainder, text_of, shown, blank_length, IsWithin};
+ghost use Rattle.wl_scan.specs.Cells.{IsWithinCell, start, renewed, cut, ended, finished, remainder, text_of, shown, IsWithin};
 ghost use Rattle.wl_scan.specs.Places.{is_end};
 ghost use Rattle.wl_scan.specs.CellText.{cell_text};
 
-use crate::characters::is_blank;
+use crate::lengths::blank_length;
 use crate::place::Place;
 use std::alloc::Global;
 use std::marker::Model;
@@ -160,7 +160,7 @@ impl Cells {
         if self.len > 0 {
             return 0;
         }
-        let blanks = leading_blanks(bytes);
+        let blanks = blank_length(bytes);
         self.taken += blanks as u64;
         blanks
     }
@@ -198,17 +198,4 @@ impl Cells {
         self.taken += 1;
         self.told = true;
     }
-}
-
-/// How many blanks the bytes begin with.
-fn leading_blanks(bytes: &[u8]) -> usize
-    ensures length { result ≡ blank_length bytes.now }
-    ensures within { result ≤ length bytes.now }
-{
-    for (count, byte) in bytes.iter().enumerate() {
-        if !is_blank(*byte) {
-            return count;
-        }
-    }
-    bytes.len()
 }

@@ -3,7 +3,17 @@
 
 mod cells;
 mod characters;
+mod found;
 pub mod laws;
+mod lengths;
+mod numbers;
 mod place;
+mod signs;
+#[cfg(test)]
+mod tests;
+mod token;
+mod tokens;
 
 pub use cells::{Cell, Cells, Fed};
+pub use token::{Kind, ScanFault, ScanKind, Token};
+pub use tokens::Tokens;

@@ -1,6 +1,6 @@
 //! What is known at a place of a text about the bytes before it.
 ghost use Rattle.std.specs.Prelude.{◌≡◌, ◌<◌, ◌≤◌, ◌+◌, ◌-◌, ◌*◌, ◌^◌, length};
-ghost use Rattle.wl_scan.specs.Places.{after, after_code, after_comment, opened, outside, seen, is_continuing, is_complete, is_end, is_rest, nesting, run_length, run_place};
+ghost use Rattle.wl_scan.specs.Places.{after, after_code, after_comment, in_comment, opened, outside, seen, is_continuing, is_complete, is_code, is_end, is_rest, nesting, run_length, run_place};
 
 use crate::characters::is_blank;
 
@@ -21,6 +21,35 @@ pub enum Region {
     CommentOpening(u64),
     /// Behind a `*` in a comment, which closes it where a `)` follows.
     CommentClosing(u64),
+}
+
+impl Region {
+    /// Whether it is outside strings and comments.
+    pub fn is_code(self) -> bool
+        ensures { result ≡ is_code self }
+    {
+        matches!(self, Region::Code)
+    }
+
+    /// Where the place behind one byte more of a comment lies.
+    pub fn in_comment(self, byte: u8) -> Region
+        requires { nesting self < 2 ^ 63 }
+        ensures region { result ≡ in_comment self byte }
+        ensures nesting { nesting result ≤ nesting self + 1 }
+    {
+        match self {
+            Region::Comment(count) => after_comment(count, byte),
+            Region::CommentOpening(count) => match byte {
+                b'*' => Region::Comment(count + 1),
+                _ => after_comment(count, byte),
+            },
+            Region::CommentClosing(count) => match byte {
+                b')' => outside(count),
+                _ => after_comment(count, byte),
+            },
+            _ => self,
+        }
+    }
 }
 
 /// What the bytes of a cell up to a place leave: the region, the depth of brackets, and the last two significant bytes.
@@ -110,15 +139,7 @@ impl Place {
                 _ => self.seen(byte),
             },
             Region::Escape => self.seen(byte).moved(Region::Quoted),
-            Region::Comment(count) => self.moved(after_comment(count, byte)),
-            Region::CommentOpening(count) => match byte {
-                b'*' => self.moved(Region::Comment(count + 1)),
-                _ => self.moved(after_comment(count, byte)),
-            },
-            Region::CommentClosing(count) => match byte {
-                b')' => self.moved(outside(count)),
-                _ => self.moved(after_comment(count, byte)),
-            },
+            _ => self.moved(self.region.in_comment(byte)),
         }
     }
 
@@ -133,7 +154,7 @@ impl Place {
         ensures { result ≡ is_end self byte }
     {
         byte == b'\n'
-            && matches!(self.region, Region::Code)
+            && self.region.is_code()
             && self.depth == 0
             && is_complete(self.last, self.before_last)
     }
@@ -142,7 +163,7 @@ impl Place {
     pub fn is_rest(self) -> bool
         ensures { result ≡ is_rest self }
     {
-        self.last.is_some() || !matches!(self.region, Region::Code)
+        self.last.is_some() || !self.region.is_code()
     }
 
     /// Goes over the bytes before the first that ends the cell: what is known behind them, and how many they are.

@@ -3,36 +3,48 @@ use Rattle.std.proofs.Common.{◌≡◌, ◌+◌, ◌++◌, ℕ, List, [], ◌�
 use Rattle.std.specs.Io.KnownBytes.{Appends}
 use Rattle.std.proofs.lemmas.List.{map-append}
 use Rattle.std.proofs.KnownBytes.{Appends-trans, Appends-nil}
-use Rattle.wl_session.specs.Answers.{Standing, outcome, shown, after, standing_after, answers, texts}
+use Rattle.wl_session.specs.Answers.{Standing, IsAnswer, outcome, shown, after, standing_after, answers}
+use Rattle.wl_session.specs.Reading.{Reading, Reads, AllRead}
+use Rattle.wl_session.specs.Transcript.{texts}
 use Rattle.wl_scan.specs.Cells.{Cutting, CellText, PlacedCell, cut, ended}
 use Rattle.wl_session.specs.Streaming.{HasAnswered, HasFed}
 use Rattle.wl_scan.proofs.Pieces.{cut_append, ended_append, taken-cut}
 
-pub standing_append : (s : Standing) (cs ds : List CellText) → standing_after s (cs ++ ds) ≡ standing_after (standing_after s cs) ds
-standing_append s [] ds = refl
-standing_append s (c ∷ cs) ds = standing_append (after s (outcome c)) cs ds
+pub standing_append : (s : Standing) (rs qs : List Reading) → standing_after s (rs ++ qs) ≡ standing_after (standing_after s rs) qs
+standing_append s [] qs = refl
+standing_append s (r ∷ rs) qs = standing_append (after s (outcome r)) rs qs
 
-pub answers_append : (s : Standing) (cs ds : List CellText) → answers s (cs ++ ds) ≡ answers s cs ++ answers (standing_after s cs) ds
-answers_append s [] ds = refl
-answers_append s (c ∷ cs) ds =
-    let first = shown (length s.history + 1) (outcome c) in
-    ap (λ (l : List ℕ). first ++ l) (answers_append (after s (outcome c)) cs ds) ∙ sym (append_assoc first (answers (after s (outcome c)) cs) (answers (standing_after (after s (outcome c)) cs) ds))
+pub answers_append : (s : Standing) (rs qs : List Reading) → answers s (rs ++ qs) ≡ answers s rs ++ answers (standing_after s rs) qs
+answers_append s [] qs = refl
+answers_append s (r ∷ rs) qs =
+    let first = shown (length s.history + 1) (outcome r) in
+    ap (λ (l : List ℕ). first ++ l) (answers_append (after s (outcome r)) rs qs) ∙ sym (append_assoc first (answers (after s (outcome r)) rs) (answers (standing_after (after s (outcome r)) rs) qs))
+
+pub all_read_append : (cs ds : List CellText) (rs qs : List Reading) → AllRead cs rs → AllRead ds qs → AllRead (cs ++ ds) (rs ++ qs)
+all_read_append [] ds [] qs p q = q
+all_read_append [] ds (r ∷ rs) qs p q = absurd p
+all_read_append (c ∷ cs) ds [] qs p q = absurd p
+all_read_append (c ∷ cs) ds (r ∷ rs) qs p q = (p.0, all_read_append cs ds rs qs p.1 q)
 
 -- one cell
-pub one_answered : (s s' : Standing) (h h' : Option (List ℕ)) (m m' : ℕ) (c : CellText) → s' ≡ after s (outcome c) → Appends h h' (shown (length s.history + 1) (outcome c)) → m' ≡ m + 1
-    → HasAnswered s s' h h' m m' (c ∷ [])
-one_answered s s' h h' m m' c stands wrote marks = record {
-  standing = stands;
-  written = subst (Appends h h') (sym (append-nil (shown (length s.history + 1) (outcome c)))) wrote;
+pub one_answered : (s s' : Standing) (h h' : Option (List ℕ)) (m m' : ℕ) (c d : CellText) (bytes : List ℕ) → IsAnswer c s s' bytes → c ≡ d → Appends h h' bytes → m' ≡ m + 1 → HasAnswered s s' h h' m m' (d ∷ [])
+one_answered s s' h h' m m' c d bytes one same wrote marks = record {
+  readings = one.reading ∷ [];
+  reads = (subst (λ (x : CellText). Reads x one.reading) same one.reads, tt);
+  standing = one.standing;
+  written = subst (Appends h h') (one.pending ∙ sym (append-nil (shown (length s.history + 1) (outcome one.reading)))) wrote;
   marked = marks;
 }
 
 -- these cells, and then those
 pub answered_on : (s t u : Standing) (h i j : Option (List ℕ)) (m n o : ℕ) (cs ds : List CellText) → HasAnswered s t h i m n cs → HasAnswered t u i j n o ds → HasAnswered s u h j m o (cs ++ ds)
 answered_on s t u h i j m n o cs ds so_far more = record {
-  standing = more.standing ∙ ap (λ (x : Standing). standing_after x ds) so_far.standing ∙ sym (standing_append s cs ds);
+  readings = so_far.readings ++ more.readings;
+  reads = all_read_append cs ds so_far.readings more.readings so_far.reads more.reads;
+  standing = more.standing ∙ ap (λ (x : Standing). standing_after x more.readings) so_far.standing ∙ sym (standing_append s so_far.readings more.readings);
   written =
-      subst (Appends h j) (ap (λ (x : Standing). answers s cs ++ answers x ds) so_far.standing ∙ sym (answers_append s cs ds)) (Appends-trans h i j (answers s cs) (answers t ds) so_far.written more.written);
+      subst (Appends h j) (ap (λ (x : Standing). answers s so_far.readings ++ answers x more.readings) so_far.standing ∙ sym (answers_append s so_far.readings more.readings))
+      (Appends-trans h i j (answers s so_far.readings) (answers t more.readings) so_far.written more.written);
   marked = omega (arith, so_far.marked, more.marked, length-append cs ds);
 }
 
@@ -68,6 +80,8 @@ fed_cell c d e s t u h i j m n o xs ys zs cell so_far next one more all =
 
 pub nothing_answered : (s t : Standing) (h i : Option (List ℕ)) (m n : ℕ) → t ≡ s → i ≡ h → n ≡ m → HasAnswered s t h i m n []
 nothing_answered s t h i m n stands holds marks = record {
+  readings = [];
+  reads = tt;
   standing = stands;
   written = subst (λ (x : Option (List ℕ)). Appends h x []) (sym holds) (Appends-nil h);
   marked = omega (arith, marks);

@@ -4,21 +4,29 @@ use Rattle.std.proofs.lemmas.Bool.Decides.{nat_tests}
 use Rattle.std.proofs.lemmas.List.{take-append-le}
 use Rattle.std.specs.Io.KnownBytes.{Appends, Consumes, IsAtEnd}
 use Rattle.wl_ports.specs.Causes.{Rose, next_count}
-use Rattle.wl_session.specs.Answers.{Standing, fresh, standing_after, answers, texts}
+use Rattle.wl_session.specs.Answers.{Standing, fresh, standing_after}
+use Rattle.wl_session.specs.Reading.{Reading, AllRead}
+use Rattle.wl_scan.specs.Cells.{CellText}
 use Rattle.wl_scan.specs.Cells.{cells, ended, start}
 use Rattle.wl_session.specs.Ends.{status_of, IsTranscript, HasTaken, IsReadToEnd, IsFaultless, HasRisen}
 use Rattle.wl_session.specs.Sitting.{Sitting, standing}
 use Rattle.wl_session.specs.Streaming.{Answers, IsBlamed, AnswersAll, AnswersFirst}
-use Rattle.wl_session.specs.Transcript.{Transcript, transcript, answered, answered_in_part, input_limit}
+use Rattle.wl_session.specs.Transcript.{transcript, cells_read, texts, input_limit}
 use Rattle.wl_session.specs.declared.ended.Ended.{Ended}
 use Rattle.wl_session.specs.declared.streaming.Stop.{Stop}
 use Rattle.wl_session.specs.declared.streaming.Stop.TheVariants.{ReadFault, WriteFault, OutOfMemory, TooLong}
 
-transcript_short : (name : Option (List ℕ)) (bytes : List ℕ) → length bytes ≤ input_limit → transcript (Some name) bytes ≡ answered bytes
-transcript_short name bytes few = let is_few : nat_le (length bytes) input_limit ≡ true = grind (arith, nat_tests) in rw is_few refl
+short_read : (name : Option (List ℕ)) (bytes : List ℕ) → length bytes ≤ input_limit → cells_read (Some name) bytes ≡ texts (cells bytes)
+short_read name bytes few = let is_few : nat_le (length bytes) input_limit ≡ true = grind (arith, nat_tests) in rw is_few refl
 
-transcript_long : (name : Option (List ℕ)) (bytes : List ℕ) → input_limit < length bytes → transcript (Some name) bytes ≡ answered_in_part bytes
-transcript_long name bytes many = let is_many : nat_le (length bytes) input_limit ≡ false = grind (arith, nat_tests) in rw is_many refl
+short_status : (name : Option (List ℕ)) (bytes : List ℕ) (readings : List Reading) → length bytes ≤ input_limit → (transcript (Some name) bytes readings).status ≡ cond (standing_after fresh readings).refused 1 0
+short_status name bytes readings few = let is_few : nat_le (length bytes) input_limit ≡ true = grind (arith, nat_tests) in rw is_few refl
+
+long_read : (name : Option (List ℕ)) (bytes : List ℕ) → input_limit < length bytes → cells_read (Some name) bytes ≡ texts (ended start (take input_limit bytes))
+long_read name bytes many = let is_many : nat_le (length bytes) input_limit ≡ false = grind (arith, nat_tests) in rw is_many refl
+
+long_status : (name : Option (List ℕ)) (bytes : List ℕ) (readings : List Reading) → input_limit < length bytes → (transcript (Some name) bytes readings).status ≡ 6
+long_status name bytes readings many = let is_many : nat_le (length bytes) input_limit ≡ false = grind (arith, nat_tests) in rw is_many refl
 
 -- all bytes were taken
 taken_all : (bytes xs : List ℕ) (b : Option (List ℕ)) → Consumes (Some bytes) b xs → IsAtEnd b → xs ≡ bytes
@@ -40,28 +48,30 @@ taken_same (Some bytes) (Some ys) xs zs tells p q = omega (arith, ap length p, a
 no_fault : (before now : ℕ) → IsFaultless before now → ¬ Rose before now
 no_fault before now faultless rose = absurd (omega (arith, faultless.kept, faultless.below))
 
-all_is_transcript : (name : Option (List ℕ)) (bytes : List ℕ) (sitting : Sitting) (b h i : Option (List ℕ)) (m n status : ℕ) → AnswersAll (Some bytes) b fresh (standing sitting) h i m n → (sitting.refused ≡ (standing_after fresh (texts (cells bytes))).refused → status ≡ (answered bytes).status)
-    → IsTranscript (transcript (Some name) bytes) (record { status = status; session = Some sitting }) h i
+all_is_transcript : (name : Option (List ℕ)) (bytes : List ℕ) (sitting : Sitting) (b h i : Option (List ℕ)) (m n status : ℕ) → AnswersAll (Some bytes) b fresh (standing sitting) h i m n → status ≡ cond sitting.refused 1 0
+    → IsTranscript (Some name) bytes (record { status = status; session = Some sitting }) h i
 all_is_transcript name bytes sitting b h i m n status all says =
     let whole = taken_all bytes all.bytes b all.taken all.at_end in
-    let stands : standing sitting ≡ standing_after fresh (texts (cells bytes)) = all.answered.standing ∙ ap (λ (l : List ℕ). standing_after fresh (texts (cells l))) whole in
     let few : length bytes ≤ input_limit = subst (λ (l : List ℕ). length l ≤ input_limit) whole all.few in
-    subst (λ (t : Transcript). IsTranscript t (record { status = status; session = Some sitting }) h i) (sym (transcript_short name bytes few)) (record {
-      status = says (ap (λ (s : Standing). s.refused) stands);
-      out = subst (λ (l : List ℕ). Appends h i (answers fresh (texts (cells l)))) whole all.answered.written;
-      history = ap (λ (s : Standing). s.history) stands;
-    })
+    record {
+      readings = all.answered.readings;
+      reads = subst (λ (cs : List CellText). AllRead cs all.answered.readings) (ap (λ (l : List ℕ). texts (cells l)) whole ∙ sym (short_read name bytes few)) all.answered.reads;
+      status = says ∙ ap (λ (s : Standing). cond s.refused 1 0) all.answered.standing ∙ sym (short_status name bytes all.answered.readings few);
+      out = all.answered.written;
+      history = ap (λ (s : Standing). s.history) all.answered.standing;
+    }
 
 first_is_transcript : (name : Option (List ℕ)) (bytes : List ℕ) (sitting : Sitting) (b h i : Option (List ℕ)) (m n : ℕ) → AnswersFirst (Some bytes) b fresh (standing sitting) h i m n
-    → IsTranscript (transcript (Some name) bytes) (record { status = 6; session = Some sitting }) h i
+    → IsTranscript (Some name) bytes (record { status = 6; session = Some sitting }) h i
 first_is_transcript name bytes sitting b h i m n first =
     let (longer, front) = taken_front bytes first.bytes b input_limit first.taken (omega (arith, first.many)) in
-    let stands : standing sitting ≡ standing_after fresh (texts (ended start (take input_limit bytes))) = first.answered.standing ∙ ap (λ (l : List ℕ). standing_after fresh (texts (ended start l))) front in
-    subst (λ (t : Transcript). IsTranscript t (record { status = 6; session = Some sitting }) h i) (sym (transcript_long name bytes longer)) (record {
-      status = refl;
-      out = subst (λ (l : List ℕ). Appends h i (answers fresh (texts (ended start l)))) front first.answered.written;
-      history = ap (λ (s : Standing). s.history) stands;
-    })
+    record {
+      readings = first.answered.readings;
+      reads = subst (λ (cs : List CellText). AllRead cs first.answered.readings) (ap (λ (l : List ℕ). texts (ended start l)) front ∙ sym (long_read name bytes longer)) first.answered.reads;
+      status = sym (long_status name bytes first.answered.readings longer);
+      out = first.answered.written;
+      history = ap (λ (s : Standing). s.history) first.answered.standing;
+    }
 
 ended_status : (done : Unit {0}) (refused : Bool) → status_of (Ok done) refused ≡ cond refused 1 0
 ended_status done true = refl
@@ -69,22 +79,22 @@ ended_status done false = refl
 
 -- the transcript, by how the run was played
 played_is_transcript : (r : Result (Unit {0}) Stop) (name : Option (List ℕ)) (bytes : List ℕ) (sitting : Sitting) (b h i : Option (List ℕ)) (m n x x' y y' status : ℕ) → status ≡ status_of r sitting.refused
-    → Answers r (Some bytes) b fresh (standing sitting) h i m n → IsBlamed r x x' y y' → ¬ Rose x x' → ¬ Rose y y' → status ≢ 5 → IsTranscript (transcript (Some name) bytes) (record { status = status; session = Some sitting }) h i
+    → Answers r (Some bytes) b fresh (standing sitting) h i m n → IsBlamed r x x' y y' → ¬ Rose x x' → ¬ Rose y y' → status ≢ 5 → IsTranscript (Some name) bytes (record { status = status; session = Some sitting }) h i
 played_is_transcript (Ok done) name bytes sitting b h i m n x x' y y' status is answers blamed no_read_fault no_write_fault some_memory =
-    all_is_transcript name bytes sitting b h i m n status answers (λ same. is ∙ ended_status done sitting.refused ∙ ap (λ (r : Bool). cond r 1 0) same)
+    all_is_transcript name bytes sitting b h i m n status answers (is ∙ ended_status done sitting.refused)
 played_is_transcript (Err ReadFault) name bytes sitting b h i m n x x' y y' status is answers blamed no_read_fault no_write_fault some_memory = absurd (no_read_fault blamed.0)
 played_is_transcript (Err WriteFault) name bytes sitting b h i m n x x' y y' status is answers blamed no_read_fault no_write_fault some_memory = absurd (no_write_fault blamed.1)
 played_is_transcript (Err OutOfMemory) name bytes sitting b h i m n x x' y y' status is answers blamed no_read_fault no_write_fault some_memory = absurd (some_memory is)
 played_is_transcript (Err TooLong) name bytes sitting b h i m n x x' y y' status is answers blamed no_read_fault no_write_fault some_memory =
-    subst (λ (k : ℕ). IsTranscript (transcript (Some name) bytes) (record { status = k; session = Some sitting }) h i) (sym is) (first_is_transcript name bytes sitting b h i m n answers)
+    subst (λ (k : ℕ). IsTranscript (Some name) bytes (record { status = k; session = Some sitting }) h i) (sym is) (first_is_transcript name bytes sitting b h i m n answers)
 
 -- the same of a source that may not tell its bytes
 pub played_tells : (r : Result (Unit {0}) Stop) (asked : Option (Option (List ℕ))) (name : Option (List ℕ)) (sitting : Sitting) (a b h i : Option (List ℕ)) (s : Standing) (m n x x' y y' status : ℕ) → Some name ≡ asked → s ≡ fresh
     → status ≡ status_of r sitting.refused → Answers r a b s (standing sitting) h i m n → IsBlamed r x x' y y'
-    → IfSome a (λ bytes. ¬ Rose x x' → ¬ Rose y y' → status ≢ 5 → IsTranscript (transcript asked bytes) (record { status = status; session = Some sitting }) h i)
+    → IfSome a (λ bytes. ¬ Rose x x' → ¬ Rose y y' → status ≢ 5 → IsTranscript asked bytes (record { status = status; session = Some sitting }) h i)
 played_tells r asked name sitting None b h i s m n x x' y y' status read new is answers blamed = tt
 played_tells r asked name sitting (Some bytes) b h i s m n x x' y y' status read new is answers blamed = λ no_read_fault no_write_fault some_memory.
-    subst (λ (w : Option (Option (List ℕ))). IsTranscript (transcript w bytes) (record { status = status; session = Some sitting }) h i) read
+    subst (λ (w : Option (Option (List ℕ))). IsTranscript w bytes (record { status = status; session = Some sitting }) h i) read
     (played_is_transcript r name bytes sitting b h i m n x x' y y' status is (subst (λ (t : Standing). Answers r (Some bytes) b t (standing sitting) h i m n) new answers) blamed no_read_fault no_write_fault some_memory)
 
 pub played_too_long : (r : Result (Unit {0}) Stop) (refused : Bool) (a b h i : Option (List ℕ)) (s s' : Standing) (m n status : ℕ) → status ≡ status_of r refused → Answers r a b s s' h i m n → status ≡ 6 → HasTaken (input_limit + 1) a b

@@ -5,10 +5,10 @@ use Rattle.std.proofs.KnownBytes.{Appends-trans, Consumes-trans, Consumes-kept}
 use Rattle.std.proofs.lemmas.List.{length-take-le, take-append-le, take-append-drop}
 use Rattle.std.proofs.Math.Seq.{take-append-add}
 use Rattle.wl_scan.proofs.Pieces.{taken-cut}
-use Rattle.wl_session.specs.Answers.{Standing, texts}
+use Rattle.wl_session.specs.Answers.{Standing}
 use Rattle.wl_scan.specs.Cells.{Cutting, PlacedCell, cut, ended, remainder, start, cells}
 use Rattle.wl_session.specs.Streaming.{HasAnswered, HasFed, AnswersAll, AnswersSome, AnswersFirst}
-use Rattle.wl_session.specs.Transcript.{input_limit}
+use Rattle.wl_session.specs.Transcript.{input_limit, texts}
 use Rattle.wl_session.proofs.Answering.{answered_on, fed_append, texts_append}
 
 -- these bytes were taken and fed, and so many more may be taken

@@ -1,10 +1,12 @@
 -- What a session answers to its cells.
-use Rattle.std.specs.Prelude.{ℕ, Bool, true, false, pos, List, [], ◌∷◌, ◌++◌, ◌+◌, length, map, sum, codes, Option, Some, None}
-use Rattle.std.specs.Fmt.{decimal}
-use Rattle.wl_exact.specs.Fraction.{of_int}
-use Rattle.wl_expr.specs.Tree.{Tree, num, symbol, node, from_list}
-use Rattle.wl_scan.specs.Cells.{CellText, PlacedCell, whole, too_long}
-use Rattle.wl_session.specs.Sums.{numbers}
+use Rattle.std.specs.Prelude.{◌≡◌, ℕ, Bool, true, false, List, [], ◌∷◌, ◌++◌, ◌+◌, length, map, codes, Option, Some, None, Result, Ok, Err}
+use Rattle.std.specs.Fmt.{decimal, signed_decimal}
+use Rattle.wl_exact.specs.Fraction.{Fraction}
+use Rattle.wl_exact.specs.declared.num.NumFault.{NumFault}
+use Rattle.wl_expr.specs.Tree.{Tree, num, symbol, node, none}
+use Rattle.wl_session.specs.Reading.{Reading, Reads, refused, read, not_supported}
+use Rattle.wl_scan.specs.Cells.{CellText}
+use Rattle.wl_session.specs.Totals.{summands, total}
 
 -- a line of the history: a cell as it was read, and its value
 pub record HistoryLine : Type 0 where
@@ -19,46 +21,64 @@ pub record Standing : Type 0 where
 abbrev pub fresh : Standing
 fresh = record { history = []; refused = false }
 
--- a cell is refused with a line of text, or answered with the text of its value
+-- a cell is refused with a line of text, or answered: with items that are shown before the answer, the text of the value, and a line of the history
 pub data Outcome : Type 0 where
   refusal : List ℕ → Outcome
-  answer : List ℕ → HistoryLine → Outcome
+  answer : List (List ℕ) → List ℕ → HistoryLine → Outcome
 
-abbrev pub not_supported : Outcome
-not_supported = refusal (codes "Refused: not supported yet.")
+abbrev pub overflow_item : List ℕ
+overflow_item = codes "General::ovfl: Overflow occurred in computation."
 
--- a number stands for itself, and any others for their sum
-abbrev pub sum_tree : List ℕ → Tree
-sum_tree (n ∷ []) = num (of_int (pos n))
-sum_tree ns = node (symbol (codes "Plus")) (from_list (map (λ n. num (of_int (pos n))) ns))
+abbrev pub overflow_text : List ℕ
+overflow_text = codes "Overflow[]"
 
-abbrev pub outcome_of_numbers : Option (List ℕ) → Outcome
-outcome_of_numbers None = not_supported
-outcome_of_numbers (Some ns) = answer (decimal (sum ns)) (record { input = sum_tree ns; value = num (of_int (pos (sum ns))) })
+abbrev pub overflow_value : Tree
+overflow_value = node (symbol (codes "Overflow")) none
 
-abbrev pub outcome : CellText → Outcome
-outcome (whole bytes) = outcome_of_numbers (numbers bytes)
-outcome too_long = not_supported
+-- a sum is a whole number here
+abbrev pub sum_outcome : Tree → Result Fraction NumFault → Outcome
+sum_outcome t (Ok f) = answer [] (signed_decimal f.num) (record { input = t; value = num f })
+sum_outcome t (Err fault) = answer (overflow_item ∷ []) overflow_text (record { input = t; value = overflow_value })
+
+abbrev pub tree_outcome : Tree → Option (List Fraction) → Outcome
+tree_outcome t None = refusal not_supported
+tree_outcome t (Some fs) = sum_outcome t (total fs)
+
+abbrev pub outcome : Reading → Outcome
+outcome (refused line) = refusal line
+outcome (read t) = tree_outcome t (summands t)
+
+-- texts with a line feed behind each
+abbrev pub lines : List (List ℕ) → List ℕ
+lines [] = []
+lines (text ∷ more) = text ++ 10 ∷ [] ++ lines more
+
+-- the items of line n, and then its answer
+abbrev pub shown_answer : ℕ → List (List ℕ) → List ℕ → List ℕ
+shown_answer n items text = lines items ++ (codes "Out[" ++ decimal n ++ codes "]= " ++ text ++ 10 ∷ [])
 
 -- the bytes that are written for a cell, which is line n where it is answered
 abbrev pub shown : ℕ → Outcome → List ℕ
 shown n (refusal text) = text ++ 10 ∷ []
-shown n (answer text line) = codes "Out[" ++ decimal n ++ codes "]= " ++ text ++ 10 ∷ []
+shown n (answer items text line) = shown_answer n items text
 
 abbrev pub after : Standing → Outcome → Standing
 after s (refusal text) = record s { refused = true }
-after s (answer text line) = record s { history = s.history ++ line ∷ [] }
+after s (answer items text line) = record s { history = s.history ++ line ∷ [] }
 
 -- after these further cells
-abbrev pub standing_after : Standing → List CellText → Standing
+abbrev pub standing_after : Standing → List Reading → Standing
 standing_after s [] = s
-standing_after s (c ∷ cs) = standing_after (after s (outcome c)) cs
-
--- cells without their places
-abbrev pub texts : List PlacedCell → List CellText
-texts cells = map (λ c. c.text) cells
+standing_after s (r ∷ rs) = standing_after (after s (outcome r)) rs
 
 -- the bytes that are written for these further cells
-abbrev pub answers : Standing → List CellText → List ℕ
+abbrev pub answers : Standing → List Reading → List ℕ
 answers s [] = []
-answers s (c ∷ cs) = shown (length s.history + 1) (outcome c) ++ answers (after s (outcome c)) cs
+answers s (r ∷ rs) = shown (length s.history + 1) (outcome r) ++ answers (after s (outcome r)) rs
+
+-- a cell was answered as it is read: what is kept, and the bytes that are to be written for it
+pub record IsAnswer (cell : CellText) (s s' : Standing) (bytes : List ℕ) : Type 0 where
+  pub reading : Reading
+  pub reads : Reads cell reading
+  pub standing : s' ≡ after s (outcome reading)
+  pub pending : bytes ≡ shown (length s.history + 1) (outcome reading)

@@ -4,7 +4,9 @@ use Rattle.std.specs.Io.KnownBytes.{Appends, Consumes, IsAtEnd}
 use Rattle.wl_ports.specs.Causes.{Rose, next_count}
 use Rattle.wl_session.specs.Answers.{HistoryLine}
 use Rattle.wl_session.specs.Sitting.{Sitting, plain_lines}
-use Rattle.wl_session.specs.Transcript.{Transcript, input_limit}
+use Rattle.wl_session.specs.Transcript.{transcript, cells_read, input_limit}
+use Rattle.wl_session.specs.Reading.{Reading, AllRead}
+use Rattle.wl_session.specs.Words.{Asked}
 use Rattle.wl_session.specs.declared.ended.Ended.{Ended}
 use Rattle.wl_session.specs.declared.streaming.Stop.{Stop}
 use Rattle.wl_session.specs.declared.streaming.Stop.TheVariants.{ReadFault, WriteFault, OutOfMemory, TooLong}
@@ -23,11 +25,13 @@ abbrev pub history_of : Option Sitting → List HistoryLine
 history_of None = []
 history_of (Some sitting) = plain_lines sitting.lines
 
--- the status, the bytes on `out` and the history are those of the transcript
-pub record IsTranscript (t : Transcript) (ended : Ended) (held held' : Option (List ℕ)) : Type 0 where
-  pub status : ended.status ≡ t.status
-  pub out : Appends held held' t.out
-  pub history : history_of ended.session ≡ t.history
+-- the status, the bytes on `out` and the history are those of the transcript, for the cells as they are read
+pub record IsTranscript (asked : Asked) (bytes : List ℕ) (ended : Ended) (held held' : Option (List ℕ)) : Type 0 where
+  pub readings : List Reading
+  pub reads : AllRead (cells_read asked bytes) readings
+  pub status : ended.status ≡ (transcript asked bytes readings).status
+  pub out : Appends held held' (transcript asked bytes readings).out
+  pub history : history_of ended.session ≡ (transcript asked bytes readings).history
 
 -- so many bytes were taken from the source, where it tells them
 pub record HasTaken (n : ℕ) (left left' : Option (List ℕ)) : Type 0 where

@@ -1,9 +1,13 @@
 pub mod Answers
+pub mod CellReading
 pub mod Ends
 pub mod Pieces
-pub mod Place
+pub mod Reading
+pub mod Refusal
+pub mod Sitting
 pub mod Streaming
+pub mod SumParts
 pub mod Sums
+pub mod Totals
 pub mod Transcript
 pub mod Words
-pub mod Sitting

@@ -2,17 +2,20 @@
 use Rattle.std.specs.Prelude.{◌≡◌, ◌≤◌, ◌+◌, ◌++◌, ℕ, List, length, take, Option, Result, Ok, Err, ⊤}
 use Rattle.std.specs.Io.KnownBytes.{Appends, Consumes, IsAtEnd}
 use Rattle.wl_ports.specs.Causes.{Rose}
-use Rattle.wl_session.specs.Answers.{Standing, standing_after, answers, texts}
+use Rattle.wl_session.specs.Answers.{Standing, standing_after, answers}
+use Rattle.wl_session.specs.Reading.{Reading, AllRead}
 use Rattle.wl_scan.specs.Cells.{Cutting, CellText, cut, ended, start, cells}
-use Rattle.wl_session.specs.Transcript.{input_limit}
+use Rattle.wl_session.specs.Transcript.{input_limit, texts}
 use Rattle.wl_session.specs.declared.streaming.Stop.{Stop}
 use Rattle.wl_session.specs.declared.streaming.Stop.TheVariants.{ReadFault, WriteFault, OutOfMemory, TooLong}
 
--- these cells were answered: what is kept from cell to cell, what `out` holds and how many cells were begun
-pub record HasAnswered (s s' : Standing) (held held' : Option (List ℕ)) (begun begun' : ℕ) (texts : List CellText) : Type 0 where
-  pub standing : s' ≡ standing_after s texts
-  pub written : Appends held held' (answers s texts)
-  pub marked : begun' ≡ begun + length texts
+-- these cells were answered as they are read: what is kept from cell to cell, what `out` holds and how many cells were begun
+pub record HasAnswered (s s' : Standing) (held held' : Option (List ℕ)) (begun begun' : ℕ) (cells : List CellText) : Type 0 where
+  pub readings : List Reading
+  pub reads : AllRead cells readings
+  pub standing : s' ≡ standing_after s readings
+  pub written : Appends held held' (answers s readings)
+  pub marked : begun' ≡ begun + length cells
 
 -- these bytes were cut, and the cells that ended within them were answered
 pub record HasFed (c c' : Cutting) (s s' : Standing) (held held' : Option (List ℕ)) (begun begun' : ℕ) (bytes : List ℕ) : Type 0 where

@@ -1,41 +1,67 @@
--- The numbers of a cell that is numbers joined by `+`.
-use Rattle.std.specs.Prelude.{ℕ, Bool, true, false, List, [], ◌∷◌, ◌++◌, ◌+◌, ◌-◌, ◌*◌, ◌^◌, ◌==◌, ◌&&◌, nat_lt, nat_le, sum, Option, Some, None, option_map, option_and_then, if◌then◌else◌}
-use Rattle.wl_scan.specs.Characters.{is_blank, is_digit}
+-- The numbers of a cell that is numbers joined by `+`, by its tokens.
+use Rattle.std.specs.Prelude.{ℕ, pos, Bool, true, false, List, [], ◌∷◌, ◌++◌, ◌&&◌, ◌||◌, nat_le, codes, Option, Some, None, if◌then◌else◌}
+use Rattle.std.specs.Str.{bytes_eq}
+use Rattle.wl_exact.specs.Fraction.{Fraction, of_int}
+use Rattle.wl_scan.specs.Tokens.{Lexeme, decimal_value, greatest}
+use Rattle.wl_scan.specs.declared.token.Kind.{Kind}
+use Rattle.wl_scan.specs.declared.token.Kind.TheVariants.{Number, Name, Pattern, Slot, Out, Text, Sign}
 
--- the greatest number
-abbrev pub greatest : ℕ
-greatest = 2 ^ 127 - 1
+-- what a token is to a sum
+pub data Part : Type 0 where
+  number : Fraction → Part
+  plus : Part
+  other : Part
 
--- before a number, in one, or behind one
-pub data Place : Type 0 where
-  wanted : Place
-  within : ℕ → Place
-  behind : ℕ → Place
+-- a number that is read is at most the greatest
+abbrev pub number_part : ℕ → Part
+number_part n = if nat_le n greatest then number (of_int (pos n)) else other
 
--- the place behind one more digit, where the number doesn't grow too great
-abbrev pub grown : ℕ → ℕ → Option Place
-grown n b = if nat_le (10 * n + (b - 48)) greatest then Some (within (10 * n + (b - 48))) else None
+abbrev pub part_of : Kind → List ℕ → Part
+part_of Number text = number_part (decimal_value text)
+part_of Sign text = if bytes_eq text (codes "+") then plus else other
+part_of Name text = other
+part_of Pattern text = other
+part_of Slot text = other
+part_of Out text = other
+part_of Text text = other
 
--- the place behind one more byte other than `+`, where the byte may stand there
-abbrev pub stepped : Place → ℕ → Option Place
-stepped wanted b = if is_digit b then Some (within (b - 48)) else (if is_blank b then Some wanted else None)
-stepped (within n) b = if is_digit b then grown n b else (if is_blank b then Some (behind n) else None)
-stepped (behind n) b = if is_blank b then Some (behind n) else None
+abbrev pub part : Lexeme → Part
+part t = part_of t.kind t.text
 
--- the number that a place is in or behind
-abbrev pub number_at : Place → Option ℕ
-number_at wanted = None
-number_at (within n) = Some n
-number_at (behind n) = Some n
+abbrev pub is_number : Part → Bool
+is_number (number n) = true
+is_number plus = false
+is_number other = false
 
--- the numbers from a place on
-abbrev pub summands : Place → List ℕ → Option (List ℕ)
-summands p [] = option_map (λ n. n ∷ []) (number_at p)
-summands p (b ∷ bytes) = if b == 43 then option_and_then (λ n. option_map (λ ns. n ∷ ns) (summands wanted bytes)) (number_at p) else option_and_then (λ q. summands q bytes) (stepped p b)
+abbrev pub is_plus : Part → Bool
+is_plus (number n) = false
+is_plus plus = true
+is_plus other = false
 
--- the numbers of a cell, where their sum doesn't grow too great either
-abbrev pub summed : List ℕ → Option (List ℕ)
-summed ns = if nat_le (sum ns) greatest then Some ns else None
+abbrev pub is_other : Part → Bool
+is_other (number n) = false
+is_other plus = false
+is_other other = true
 
-abbrev pub numbers : List ℕ → Option (List ℕ)
-numbers bytes = option_and_then summed (summands wanted bytes)
+-- behind this part: a token is neither a number nor `+`, two numbers are neighbours, or the last token is `+`
+abbrev pub is_unsupported : Part → List Lexeme → Bool
+is_unsupported before [] = is_plus before
+is_unsupported before (t ∷ ts) = is_other (part t) || (is_number before && is_number (part t)) || is_unsupported (part t) ts
+
+-- behind this part: the place of the first `+` right behind another one
+abbrev pub misplaced : Part → List Lexeme → Option ℕ
+misplaced before [] = None
+misplaced before (t ∷ ts) = if is_plus before && is_plus (part t) then Some t.at else misplaced (part t) ts
+
+abbrev pub number_in : Part → List Fraction
+number_in (number n) = n ∷ []
+number_in plus = []
+number_in other = []
+
+abbrev pub numbers : List Lexeme → List Fraction
+numbers [] = []
+numbers (t ∷ ts) = number_in (part t) ++ numbers ts
+
+-- A cell begins as if behind a `+`: where a number is wanted
+abbrev pub begun : Part
+begun = plus

@@ -1,7 +1,9 @@
 -- What a run writes and leaves, whatever the pieces that its source gives.
-use Rattle.std.specs.Prelude.{ℕ, Bool, true, false, List, [], ◌∷◌, ◌++◌, ◌==◌, length, take, nat_le, codes, Option, Some, None, if◌then◌else◌}
-use Rattle.wl_scan.specs.Cells.{start, cells, ended}
-use Rattle.wl_session.specs.Answers.{HistoryLine, Standing, fresh, standing_after, answers, texts}
+use Rattle.std.specs.Prelude.{ℕ, Bool, true, false, List, [], ◌∷◌, ◌++◌, ◌==◌, length, map, take, nat_le, codes, Option, Some, None, if◌then◌else◌}
+use Rattle.wl_scan.specs.Cells.{CellText, PlacedCell, start, cells, ended}
+use Rattle.wl_session.specs.Answers.{HistoryLine, fresh, standing_after, answers}
+use Rattle.wl_session.specs.Reading.{Reading}
+use Rattle.wl_session.specs.Words.{Asked}
 
 -- the longest input that is read, in bytes
 abbrev pub input_limit : ℕ
@@ -16,25 +18,26 @@ line_for status = if status == 2 then codes "usage: wl [--steps N] [--form input
     else (if status == 6 then codes "wl: input longer than 1073741824 bytes" ++ 10 ∷ []
     else []))))
 
+-- cells without their places
+abbrev pub texts : List PlacedCell → List CellText
+texts cells = map (λ c. c.text) cells
+
+-- the cells that are read: all of them, or those that end within the longest input that is read
+abbrev pub cells_read : Asked → List ℕ → List CellText
+cells_read None bytes = []
+cells_read (Some name) bytes = if nat_le (length bytes) input_limit then texts (cells bytes) else texts (ended start (take input_limit bytes))
+
 -- the bytes for `out`, the status and the history; the line for `err` is that of the status
 pub record Transcript : Type 0 where
   pub out : List ℕ
   pub status : ℕ
   pub history : List HistoryLine
 
--- all cells are answered: the status says whether one was refused
-abbrev pub answered : List ℕ → Transcript
-answered bytes =
-    let last = standing_after fresh (texts (cells bytes)) in
-    record { out = answers fresh (texts (cells bytes)); status = if last.refused then 1 else 0; history = last.history }
-
--- the input is too long: the cells that end within its first bytes are answered
-abbrev pub answered_in_part : List ℕ → Transcript
-answered_in_part bytes =
-    let first = texts (ended start (take input_limit bytes)) in
-    record { out = answers fresh first; status = 6; history = (standing_after fresh first).history }
-
--- of words that are read, or not, and the bytes of the source
-abbrev pub transcript : Option (Option (List ℕ)) → List ℕ → Transcript
-transcript None bytes = record { out = []; status = 2; history = [] }
-transcript (Some name) bytes = if nat_le (length bytes) input_limit then answered bytes else answered_in_part bytes
+-- of words that are read or not, the bytes of the source, and the readings of its cells
+abbrev pub transcript : Asked → List ℕ → List Reading → Transcript
+transcript None bytes readings = record { out = []; status = 2; history = [] }
+transcript (Some name) bytes readings = let last = standing_after fresh readings in record {
+  out = answers fresh readings;
+  status = if nat_le (length bytes) input_limit then (if last.refused then 1 else 0) else 6;
+  history = last.history;
+}

@@ -10,7 +10,10 @@ begins_with_dash [] = false
 begins_with_dash (b ∷ bytes) = b == 45
 
 -- the name that the words ask for, None for standard input; None where they are not read
-abbrev pub asked : List (List ℕ) → Option (Option (List ℕ))
+abbrev pub Asked : Type 0
+Asked = Option (Option (List ℕ))
+
+abbrev pub asked : List (List ℕ) → Asked
 asked [] = Some None
 asked (word ∷ []) = if begins_with_dash word then None else Some (Some word)
 asked (word ∷ other ∷ words) = None

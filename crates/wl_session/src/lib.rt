@@ -2,10 +2,15 @@
 #![tactic(auto)]
 
 mod ended;
+mod reading;
+mod refusal;
 mod session;
 mod streaming;
 mod sums;
+#[cfg(test)]
+mod tests;
 mod top;
+mod totals;
 mod words;
 
 pub use ended::Ended;

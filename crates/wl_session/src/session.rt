@@ -1,18 +1,19 @@
 //! A session: the history of its lines, and what it answers to a cell.
-ghost use Rattle.std.specs.Prelude.{◌≡◌, ◌≤◌, ◌+◌, ◌++◌, [], ◌∷◌, ℕ, List, length, map, sum, pos, true, false, IfOk, OnOk, OnErr, Some, None};
-ghost use Rattle.wl_exact.specs.Fraction.{of_int};
+ghost use Rattle.std.specs.Prelude.{◌≡◌, ◌+◌, [], ◌∷◌, length, Ok, Err, IfOk, OnOk, OnErr, string_bytes};
 ghost use Rattle.wl_expr.specs.Stamped.{plain};
-ghost use Rattle.wl_expr.specs.Tree.{num};
-ghost use Rattle.wl_session.specs.Answers.{Outcome, outcome, outcome_of_numbers, not_supported, shown, after, fresh, sum_tree};
 ghost use Rattle.wl_scan.specs.CellText.{cell_text};
 ghost use Rattle.wl_scan.specs.Cells.{IsWithinCell};
-ghost use Rattle.wl_session.specs.Sums.{greatest, numbers};
-ghost use Rattle.wl_session.specs.Sitting.{Sitting, standing};
+ghost use Rattle.wl_session.specs.Answers.{IsAnswer, refusal, outcome, sum_outcome, overflow_item, overflow_text, overflow_value, shown, shown_answer, after, fresh};
+ghost use Rattle.wl_session.specs.Reading.{read};
+ghost use Rattle.wl_session.specs.Refusal.{refusal_line};
+ghost use Rattle.wl_session.specs.Sitting.{standing};
 
-use crate::sums::read_numbers;
+use crate::reading::read_cell;
+use crate::refusal::{Refusal, refusal_line};
+use crate::totals::total_of;
 use std::alloc::Global;
 use std::marker::Model;
-use wl_exact::Num;
+use wl_exact::{Num, NumFault};
 use wl_expr::{Expr, ExprFault};
 use wl_ports::Memory;
 use wl_scan::Cell;
@@ -78,89 +79,87 @@ impl Session {
     /// Answers the next cell: its bytes are pending afterwards.
     pub(crate) fn answer(&mut self, alloc: Global, cell: Cell<'_>) -> Result<(), Memory>
         requires { IsWithinCell (cell_text cell) }
-        ensures standing { OnOk result (standing self.new ≡ after (standing self.old) (outcome (cell_text cell.entry))) }
-        ensures pending { OnOk result (self.new.pending ≡ shown (length self.old.lines + 1) (outcome (cell_text cell.entry))) }
+        ensures answered { OnOk result (IsAnswer (cell_text cell.entry) (standing self.old) (standing self.new) self.new.pending) }
         ensures unchanged { OnErr result (self.new.lines ≡ self.old.lines) }
     {
-        let numbers = match cell {
-            Cell::TooLong => None,
-            Cell::Bytes(bytes) => read_numbers(alloc, bytes)?,
-        };
-        match numbers {
-            None => self.refuse(alloc),
-            Some(numbers) => self.show_sum(alloc, numbers.as_slice()),
+        match read_cell(alloc, cell)? {
+            Err(why) => self.refuse(alloc, why),
+            Ok(input) => self.show(alloc, input),
         }
     }
 
-    fn refuse(&mut self, alloc: Global) -> Result<(), Memory>
-        ensures standing { OnOk result (standing self.new ≡ after (standing self.old) not_supported) }
-        ensures pending { OnOk result (self.new.pending ≡ shown (length self.old.lines + 1) not_supported) }
+    fn refuse(&mut self, alloc: Global, why: Refusal) -> Result<(), Memory>
+        ensures standing { OnOk result (standing self.new ≡ after (standing self.old) (refusal (refusal_line why))) }
+        ensures pending { OnOk result (self.new.pending ≡ shown (length self.old.lines + 1) (refusal (refusal_line why))) }
         ensures unchanged { self.new.lines ≡ self.old.lines }
     {
-        self.pending = String::from_str(alloc, "Refused: not supported yet.\n")?;
+        let mut line = refusal_line(alloc, why)?;
+        line.push('\n')?;
+        self.pending = line;
         self.refused = true;
         Ok(())
     }
 
-    fn show_sum(&mut self, alloc: Global, numbers: &[u128]) -> Result<(), Memory>
-        requires small { sum numbers.now ≤ greatest }
-        requires few { length numbers.now ≤ 131073 }
-        ensures standing { OnOk result (standing self.new ≡ after (standing self.old) (outcome_of_numbers (Some numbers.now))) }
-        ensures pending { OnOk result (self.new.pending ≡ shown (length self.old.lines + 1) (outcome_of_numbers (Some numbers.now))) }
+    fn show(&mut self, alloc: Global, input: Expr) -> Result<(), Memory>
+        ensures standing { OnOk result (standing self.new ≡ after (standing self.old) (outcome (read (plain input)))) }
+        ensures pending { OnOk result (self.new.pending ≡ shown (length self.old.lines + 1) (outcome (read (plain input)))) }
         ensures unchanged { OnErr result (self.new.lines ≡ self.old.lines) }
     {
-        let total: u128 = numbers.iter().sum();
+        match total_of(&input) {
+            None => self.refuse(alloc, Refusal::NotSupported),
+            Some(Ok(sum)) => self.show_sum(alloc, input, sum),
+            Some(Err(_)) => self.show_overflow(alloc, input),
+        }
+    }
+
+    /// A sum is a whole number here.
+    fn show_sum(&mut self, alloc: Global, input: Expr, sum: Num) -> Result<(), Memory>
+        ensures standing { OnOk result (standing self.new ≡ after (standing self.old) (sum_outcome (plain input) (Ok sum))) }
+        ensures pending { OnOk result (self.new.pending ≡ shown (length self.old.lines + 1) (sum_outcome (plain input) (Ok sum))) }
+        ensures unchanged { OnErr result (self.new.lines ≡ self.old.lines) }
+    {
         let number = self.lines.len() as u128 + 1;
-        let line = Line {
-            input: sum_expr(alloc, numbers)?,
-            value: number_expr(alloc, total)?,
-        };
-        self.pending = format!(in alloc; "Out[{number}]= {total}\n")?;
-        self.lines.push(line)?;
+        let value = Expr::num(alloc, sum)?;
+        let text = sum.num();
+        self.pending = format!(in alloc; "Out[{number}]= {text}\n")?;
+        self.lines.push(Line { input, value })?;
+        Ok(())
+    }
+
+    fn show_overflow(&mut self, alloc: Global, input: Expr) -> Result<(), Memory>
+        ensures standing { OnOk result (standing self.new ≡ after (standing self.old) (sum_outcome (plain input) (Err NumFault.Overflow))) }
+        ensures pending { OnOk result (self.new.pending ≡ shown (length self.old.lines + 1) (sum_outcome (plain input) (Err NumFault.Overflow))) }
+        ensures unchanged { OnErr result (self.new.lines ≡ self.old.lines) }
+    {
+        let value = overflow_expr(alloc)?;
+        self.pending = overflow_shown(alloc, self.lines.len() as u128 + 1)?;
+        self.lines.push(Line { input, value })?;
         Ok(())
     }
 }
 
-/// A number, as an expression.
-fn number_expr(alloc: Global, n: u128) -> Result<Expr, Memory>
-    requires { n ≤ greatest }
-    ensures { IfOk result (λ e. plain e ≡ num (of_int (pos n))) }
+/// What is shown where the sum of a line overflows.
+fn overflow_shown(alloc: Global, number: u128) -> Result<String, Memory>
+    ensures { IfOk result (λ text. string_bytes text ≡ shown_answer number (overflow_item ∷ []) overflow_text) }
 {
-    let Some(n) = Num::int(n as i128) else {
-        unreachable!()
-    };
-    Expr::num(alloc, n)
+    let text = format!(in alloc;
+        "General::ovfl: Overflow occurred in computation.\nOut[{number}]= Overflow[]\n"
+    )?;
+    Ok(text)
 }
 
-/// A number stands for itself, and any others for their sum.
-fn sum_expr(alloc: Global, numbers: &[u128]) -> Result<Expr, Memory>
-    requires small { sum numbers.now ≤ greatest }
-    requires few { length numbers.now ≤ 131073 }
-    ensures { IfOk result (λ e. plain e ≡ sum_tree numbers.now) }
+/// `Overflow[]`.
+fn overflow_expr(alloc: Global) -> Result<Expr, Memory>
+    ensures { IfOk result (λ e. plain e ≡ overflow_value) }
 {
-    if numbers.len() == 1 {
-        return number_expr(alloc, numbers[0]);
-    }
-    let summands = number_exprs(alloc, numbers)?;
-    let plus = match Expr::symbol(alloc, "Plus") {
-        Ok(plus) => plus,
+    let head = match Expr::symbol(alloc, "Overflow") {
+        Ok(head) => head,
         Err(ExprFault::Memory) => return Err(Memory),
         Err(ExprFault::Large) => unreachable!(),
     };
-    match Expr::node(alloc, &plus, summands.as_slice()) {
-        Ok(sum) => Ok(sum),
+    match Expr::node(alloc, &head, &[]) {
+        Ok(value) => Ok(value),
         Err(ExprFault::Memory) => Err(Memory),
         Err(ExprFault::Large) => unreachable!(),
     }
-}
-
-fn number_exprs(alloc: Global, numbers: &[u128]) -> Result<Vec<Expr>, Memory>
-    requires { sum numbers.now ≤ greatest }
-    ensures { IfOk result (λ v. map plain v.items ≡ map (λ n. num (of_int (pos n))) numbers.now) }
-{
-    let mut exprs = Vec::with_capacity(alloc, numbers.len())?;
-    for number in numbers {
-        exprs.push(number_expr(alloc, *number)?)?;
-    }
-    Ok(exprs)
 }

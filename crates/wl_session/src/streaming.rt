@@ -3,7 +3,7 @@ ghost use Rattle.std.specs.Prelude.{◌≡◌, ◌≤◌, ◌<◌, ◌+◌, ◌^
 ghost use Rattle.std.specs.Io.KnownBytes.{Appends, Consumes, Keeps, IsAtEnd};
 ghost use Rattle.wl_ports.specs.Causes.{HasCause};
 ghost use Rattle.wl_scan.specs.Cells.{start, remainder, text_of};
-ghost use Rattle.wl_session.specs.Answers.{texts};
+ghost use Rattle.wl_session.specs.Transcript.{texts};
 ghost use Rattle.wl_session.specs.Pieces.{IsWrittenInPart};
 ghost use Rattle.wl_session.specs.Sitting.{standing};
 ghost use Rattle.wl_session.specs.Streaming.{HasAnswered, HasFed, OutIsBlamed, IsBlamed, Answers};

@@ -1,121 +1,147 @@
-//! The numbers of a cell that is numbers joined by `+`.
-ghost use Rattle.std.specs.Prelude.{◌≡◌, ◌≤◌, Option, Some, None, List, [], nat_le, ◌+◌, length, IfOk, IfSome, option_map, sum};
-ghost use Rattle.wl_session.specs.Place.{place_of};
-ghost use Rattle.wl_session.specs.Sums.{greatest, stepped, number_at, numbers, summands, wanted};
+//! The numbers of a cell that is numbers joined by `+`, by its tokens.
+ghost use Rattle.std.specs.Prelude.{◌≡◌, ◌≤◌, ◌+◌, ◌++◌, ◌||◌, pos, Option, Some, None, List, [], length, nat_le, IfOk, if◌then◌else◌};
+ghost use Rattle.wl_exact.specs.Fraction.{of_int};
+ghost use Rattle.wl_scan.specs.TokenParts.{lexeme_of};
+ghost use Rattle.wl_scan.specs.Tokens.{decimal_value, greatest, scanned};
+ghost use Rattle.wl_session.specs.SumParts.{part_is, Sees};
+ghost use Rattle.wl_session.specs.Sums.{part, is_number, is_plus, is_other};
+ghost use Rattle.wl_session.specs.Reading.{scan_reading, supported_reading};
+ghost use Rattle.wl_session.specs.CellReading.{numbers_reading};
 
+use crate::refusal::Refusal;
 use std::alloc::Global;
+use wl_exact::Num;
 use wl_ports::Memory;
+use wl_scan::{Kind, Token, Tokens};
 
 /// The greatest number.
 const GREATEST: u128 = 170_141_183_460_469_231_731_687_303_715_884_105_727;
 
-/// Before a number, in one, or behind one.
+/// What a token is to a sum.
 #[derive(Clone, Copy)]
-enum Place {
-    Wanted,
-    Within(u128),
-    Behind(u128),
+enum Part {
+    Number(Num),
+    Plus,
+    Other,
 }
 
-/// The place behind one more digit, where the number doesn't grow too great.
-fn grown(number: u128, digit: u8) -> Option<Place>
-    requires low { 48 ≤ digit }
-    requires high { digit ≤ 57 }
-    ensures { option_map place_of result ≡ stepped (place_of (Place.Within number)) digit }
+fn part_of(token: &Token<'_>) -> Part
+    ensures { part_is result ≡ part (lexeme_of token.now) }
 {
-    let digit = (digit - b'0') as u128;
-    if number > (GREATEST - digit) / 10 {
-        return None;
-    }
-    Some(Place::Within(10 * number + digit))
-}
-
-/// The place behind one more byte other than `+`, where the byte may stand there.
-fn step(place: Place, byte: u8) -> Option<Place>
-    ensures { option_map place_of result ≡ stepped (place_of place) byte }
-{
-    let is_blank = matches!(byte, b' ' | b'\t' | b'\n' | b'\x0c' | b'\r');
-    match place {
-        Place::Wanted => match byte {
-            b'0'..=b'9' => Some(Place::Within((byte - b'0') as u128)),
-            _ if is_blank => Some(Place::Wanted),
-            _ => None,
+    match token.kind {
+        Kind::Number => match decimal(token.text.as_bytes()) {
+            Some(number) => Part::Number(number),
+            None => Part::Other,
         },
-        Place::Within(number) => match byte {
-            b'0'..=b'9' => grown(number, byte),
-            _ if is_blank => Some(Place::Behind(number)),
-            _ => None,
-        },
-        Place::Behind(_) => { if is_blank { Some(place) } else { None } }
-    }
-}
-
-/// The numbers of a cell that is numbers joined by `+`, none of them and no sum of them too great.
-pub(crate) fn read_numbers(alloc: Global, bytes: &[u8]) -> Result<Option<Vec<u128>>, Memory>
-    ensures value { IfOk result (λ r. option_map (λ v. v.items) r ≡ numbers bytes.now) }
-    ensures small { IfOk result (λ r. IfSome r (λ v. sum v.items ≤ greatest)) }
-    ensures few { IfOk result (λ r. IfSome r (λ v. length v.items ≤ length bytes.now + 1)) }
-{
-    match read_summands(alloc, bytes)? {
-        None => Ok(None),
-        Some(numbers) => {
-            if is_small(numbers.as_slice()) {
-                Ok(Some(numbers))
+        Kind::Sign => {
+            if token.text == "+" {
+                Part::Plus
             } else {
-                Ok(None)
+                Part::Other
             }
         }
+        Kind::Name | Kind::Pattern | Kind::Slot | Kind::Out | Kind::Text => Part::Other,
     }
 }
 
-/// Whether the sum of the numbers doesn't grow too great.
-fn is_small(numbers: &[u128]) -> bool
-    ensures { result ≡ nat_le (sum numbers.now) greatest }
+/// The number that digits write, where it is at most the greatest.
+fn decimal(digits: &[u8]) -> Option<Num>
+    ensures { result ≡ (if nat_le (decimal_value digits.now) greatest then Some (of_int (pos (decimal_value digits.now))) else None) }
 {
-    let mut total = 0u128;
-    for number in numbers {
-        if *number > GREATEST - total {
-            return false;
+    let mut value = 0u128;
+    for digit in digits {
+        let unit = digit.saturating_sub(b'0') as u128;
+        if value > (GREATEST - unit) / 10 {
+            return None;
         }
-        total += *number;
+        value = value * 10 + unit;
     }
-    true
+    Num::int(value as i128)
 }
 
-/// The numbers of a cell that is numbers joined by `+`, none of them too great.
-fn read_summands(alloc: Global, bytes: &[u8]) -> Result<Option<Vec<u128>>, Memory>
-    ensures value { IfOk result (λ r. option_map (λ v. v.items) r ≡ summands wanted bytes.now) }
-    ensures few { IfOk result (λ r. IfSome r (λ v. length v.items ≤ length bytes.now + 1)) }
+/// What was seen of a sum so far.
+#[derive(Clone, Copy)]
+struct Seen {
+    before: Part,
+    is_unsupported: bool,
+    misplaced: Option<u32>,
+}
+
+/// One more token, at this place.
+fn see(seen: Seen, next: Part, at: u32) -> Seen
+    ensures { Sees seen result (part_is next) at }
 {
-    let mut numbers = Vec::new(alloc);
-    let mut place = Place::Wanted;
-    for byte in bytes {
-        if *byte == b'+' {
-            let Some(number) = number_at(place) else {
-                return Ok(None);
-            };
-            numbers.push(number)?;
-            place = Place::Wanted;
-        } else {
-            place = match step(place, *byte) {
-                Some(next) => next,
-                None => return Ok(None),
-            };
+    let is_neighbour = is_number(seen.before) && is_number(next);
+    let misplaced = match seen.misplaced {
+        Some(place) => Some(place),
+        None => {
+            if is_plus(seen.before) && is_plus(next) {
+                Some(at)
+            } else {
+                None
+            }
         }
-    }
-    let Some(number) = number_at(place) else {
-        return Ok(None);
     };
-    numbers.push(number)?;
-    Ok(Some(numbers))
+    Seen {
+        before: next,
+        is_unsupported: seen.is_unsupported || is_other(next) || is_neighbour,
+        misplaced,
+    }
 }
 
-/// The number that a place is in or behind.
-fn number_at(place: Place) -> Option<u128>
-    ensures { result ≡ number_at (place_of place) }
+fn is_number(part: Part) -> bool
+    ensures { result ≡ is_number (part_is part) }
 {
-    match place {
-        Place::Wanted => None,
-        Place::Within(number) | Place::Behind(number) => Some(number),
+    matches!(part, Part::Number(_))
+}
+
+fn is_plus(part: Part) -> bool
+    ensures { result ≡ is_plus (part_is part) }
+{
+    matches!(part, Part::Plus)
+}
+
+fn is_other(part: Part) -> bool
+    ensures { result ≡ is_other (part_is part) }
+{
+    matches!(part, Part::Other)
+}
+
+/// The numbers of a text that is numbers joined by `+`, or why it isn't.
+pub(crate) fn read_numbers(alloc: Global, text: &str) -> Result<Result<Vec<Num>, Refusal>, Memory>
+    requires { length text.now ≤ 131072 }
+    ensures { IfOk result (λ r. numbers_reading r ≡ scan_reading (scanned text.now).tokens (scanned text.now).fault) }
+{
+    let mut tokens = Tokens::over(text);
+    let mut numbers = Vec::new(alloc);
+    let mut seen = Seen {
+        before: Part::Plus,
+        is_unsupported: false,
+        misplaced: None,
+    };
+    'tokens: loop {
+        let token = match tokens.next() {
+            Ok(Some(token)) => token,
+            Ok(None) => return Ok(conclude(seen, numbers)),
+            Err(fault) => return Ok(Err(Refusal::Scan(fault))),
+        };
+        let next = part_of(&token);
+        if let Part::Number(number) = next {
+            numbers.push(number)?;
+        }
+        seen = see(seen, next, token.at);
+    }
+}
+
+/// The numbers at the end of the tokens, or why they are no sum.
+fn conclude(seen: Seen, numbers: Vec<Num>) -> Result<Vec<Num>, Refusal>
+    ensures { numbers_reading result ≡ supported_reading (seen.is_unsupported || is_plus (part_is seen.before)) numbers.items seen.misplaced }
+{
+    if seen.is_unsupported || is_plus(seen.before) {
+        return Err(Refusal::NotSupported);
+    }
+    match seen.misplaced {
+        Some(at) => Err(Refusal::Unexpected(at)),
+        None => Ok(numbers),
     }
 }

@@ -5,7 +5,7 @@ ghost use Rattle.wl_scan.specs.Cells.{start, cells};
 ghost use Rattle.wl_session.specs.Ends.{IsTold, IsTranscript, IsFaultless, IsReadToEnd, HasTaken, HasRisen, status_of};
 ghost use Rattle.wl_session.specs.Sitting.{standing};
 ghost use Rattle.wl_session.specs.Streaming.{IsBlamed, Answers};
-ghost use Rattle.wl_session.specs.Transcript.{line_for, transcript, input_limit};
+ghost use Rattle.wl_session.specs.Transcript.{line_for, input_limit};
 ghost use Rattle.wl_session.specs.Words.{asked, words_of};
 
 use crate::ended::Ended;
@@ -101,7 +101,7 @@ pub fn run<S: Source, K: Sink, E: Sink, L: Ledger>(
     // What is written and kept is the transcript's, whatever the pieces.
     ensures transcript { IfSome (S.left source.old) (λ bytes.
         ¬ Rose (S.faults source.old) (S.faults source.new) → ¬ Rose (K.faults out.old) (K.faults out.new) → result.status ≢ 5
-        → IsTranscript (transcript (asked (words_of words.now)) bytes) result (K.held out.old) (K.held out.new)) }
+        → IsTranscript (asked (words_of words.now)) bytes result (K.held out.old) (K.held out.new)) }
     ensures told { IsTold (line_for result.status) (E.held err.old) (E.held err.new) (E.faults err.old) (E.faults err.new) }
     ensures marked { result.status ≤ 1 → IfSome (S.left source.old) (λ bytes. length work.new ≡ length work.old + length (cells bytes)) }
     ensures flushed { result.status ≤ 1 → IsSome (K.held out.old) → K.flushed out.new ≡ Some true }

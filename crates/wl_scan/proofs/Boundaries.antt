@@ -1,0 +1,40 @@
+-- Where a text may be cut: behind the forms of a token what is left is UTF-8 again.
+use Rattle.std.proofs.Common.{inl, inr, ◌≡◌, ◌==◌, ℕ, zero, suc, ◌+◌, ◌≤◌, ◌<◌, Bool, true, false, cond, min, List, [], ◌∷◌, ◌++◌, length, take, drop, get_or, ap, sym, subst, refl, ◌∙◌, arith}
+use Rattle.std.specs.List.{prefix_len}
+use Rattle.std.specs.Str.{IsUtf8, IsCharBoundary}
+use Rattle.std.proofs.lemmas.Str.{encode_ascii, IsUtf8-past_char, IsUtf8-nil, IsCharBoundary-from_drop}
+use Rattle.std.proofs.lemmas.Bool.{cases_Bool, cond_both, cond-false, eqb-true}
+use Rattle.wl_scan.specs.Lengths.{underscores_length}
+
+pub past_ascii : (b : ℕ) (bs : List ℕ) → b < 128 → IsUtf8 (b ∷ bs) → IsUtf8 bs
+past_ascii b bs ascii utf8 = IsUtf8-past_char (b ∷ bs) bs b utf8 (ap (λ (l : List ℕ). l ++ bs) (sym (encode_ascii b ascii)))
+
+-- behind some of the bytes of a run of ASCII
+pub past_prefix : (p : ℕ → Bool) (ascii : (b : ℕ) → p b ≡ true → b < 128) (n : ℕ) (text : List ℕ) → IsUtf8 text → n ≤ prefix_len p text → IsUtf8 (drop n text)
+past_prefix p ascii zero text utf8 within = utf8
+past_prefix p ascii (suc n) [] utf8 within = utf8
+past_prefix p ascii (suc n) (b ∷ bs) utf8 within =
+    elim (cases_Bool (p b)) [
+      | inl passes ↦
+          let more : prefix_len p (b ∷ bs) ≡ 1 + prefix_len p bs = ap (λ (t : Bool). cond t (1 + prefix_len p bs) 0) passes in
+          past_prefix p ascii n bs (past_ascii b bs (ascii b passes) utf8) (omega (arith, within, more))
+      | inr fails ↦
+          let none : prefix_len p (b ∷ bs) ≡ 0 = cond-false (p b) _ _ fails in
+          absurd (omega (arith, within, none))
+    ]
+
+pub prefix_within : (p : ℕ → Bool) (text : List ℕ) → prefix_len p text ≤ length text
+prefix_within p [] = omega arith
+prefix_within p (b ∷ bs) =
+    let rest = prefix_within p bs in
+    cond_both (p b) (1 + prefix_len p bs) 0 (λ (n : ℕ). n ≤ length (b ∷ bs)) (λ _. omega arith) (λ _. omega arith)
+
+pub prefix_boundary : (p : ℕ → Bool) (ascii : (b : ℕ) → p b ≡ true → b < 128) (n : ℕ) (text : List ℕ) → IsUtf8 text → n ≤ prefix_len p text → IsCharBoundary text n
+prefix_boundary p ascii n text utf8 within =
+    IsCharBoundary-from_drop text n (omega (arith, within, prefix_within p text)) (past_prefix p ascii n text utf8 within)
+
+-- behind up to three `_`
+pub marks_boundary : (text bytes : List ℕ) (k n : ℕ) → IsUtf8 text → bytes ≡ text → k ≡ underscores_length bytes → n ≡ min k 3 → IsCharBoundary text n
+marks_boundary text bytes k n utf8 same count is =
+    let all : k ≡ underscores_length text = count ∙ ap underscores_length same in
+    prefix_boundary (λ b. b == 95) (λ b is95. omega (arith, eqb-true b 95 is95)) n text utf8 (omega (arith, all, is))

@@ -1,0 +1,10 @@
+use Rattle.std.proofs.Common.{◌≡◌, ◌+◌, length, [], ◌∷◌, ◌++◌, arith, ap, ◌∙◌, subst}
+use Rattle.std.proofs.lemmas.Grind.{common_steps}
+use Rattle.std.specs.Io.KnownBytes.{Appends}
+use Rattle.wl_session.proofs.Answering.{one_answered}
+use Rattle.wl_session.proofs.streaming.answer_cell.Goals as goal
+
+pub returns-in-Ok-write_whole-clause-answered : goal.returns-in-Ok-write_whole-clause-answered
+returns-in-Ok-write_whole-clause-answered g c =
+    let one_more : length c.mark.new.self ≡ length c.args.work.now + 1 = grind (arith, common_steps, c.mark.ensures) in
+    one_answered _ _ _ _ _ _ _ _ _ c.in-Ok.ensures.answered c.cell.ensures.text (subst (Appends _ _) c.pending.ensures c.in-Ok-write_whole.ensures.whole) one_more

@@ -1,0 +1,30 @@
+-- The line that says why a cell is refused.
+use Rattle.std.specs.Prelude.{ℕ, List, [], ◌∷◌, ◌++◌, codes}
+use Rattle.std.specs.Fmt.{decimal}
+use Rattle.wl_scan.specs.declared.token.ScanKind.{ScanKind}
+use Rattle.wl_scan.specs.declared.token.ScanKind.TheVariants.{Real, LongNumber, BadChar, BadEscape, OpenString, OpenComment}
+use Rattle.wl_scan.specs.declared.token.ScanFault.{ScanFault}
+use Rattle.wl_session.specs.declared.refusal.Refusal.{Refusal}
+use Rattle.wl_session.specs.declared.refusal.Refusal.TheVariants.{TooLong, NotUtf8, Scan, Unexpected, NotSupported}
+
+abbrev pub scan_text : ScanKind → List ℕ
+scan_text Real = codes "Refused: real number"
+scan_text LongNumber = codes "Refused: number past 127 bits"
+scan_text BadChar = codes "Refused: character"
+scan_text BadEscape = codes "Refused: escape"
+scan_text OpenString = codes "Refused: open string"
+scan_text OpenComment = codes "Refused: open comment"
+
+-- a text, and the place that it speaks of
+abbrev pub place_line : List ℕ → ℕ → List ℕ
+place_line text at = text ++ codes " at byte " ++ decimal at ++ codes "."
+
+abbrev pub fault_line : ScanFault → List ℕ
+fault_line fault = place_line (scan_text fault.kind) fault.at
+
+abbrev pub refusal_line : Refusal → List ℕ
+refusal_line TooLong = codes "Refused: cell longer than 131072 bytes."
+refusal_line NotUtf8 = codes "Refused: not UTF-8."
+refusal_line (Scan fault) = fault_line fault
+refusal_line (Unexpected at) = place_line (codes "Refused: unexpected input") at
+refusal_line NotSupported = codes "Refused: not supported yet."
