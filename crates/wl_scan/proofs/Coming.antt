@@ -1,6 +1,5 @@
 -- What is still to come of a text, past what is found at a place.
 use Rattle.std.proofs.Common.{◌≡◌, ℕ, zero, suc, ◌+◌, ◌-◌, ◌≤◌, ◌<◌, List, [], ◌∷◌, length, take, drop, ap, sym, refl, ◌∙◌, arith}
-use Rattle.std.specs.Str.{IsUtf8}
 use Rattle.std.proofs.lemmas.List.{length-drop, drop-drop, drop_all}
 use Rattle.wl_scan.specs.Tokens.{Scanned, found, coming, scanned_from, nothing, token_before, fault_at}
 use Rattle.wl_scan.specs.Scanning.{to_come}

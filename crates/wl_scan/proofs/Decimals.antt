@@ -1,5 +1,5 @@
 -- More digits write no smaller number.
-use Rattle.std.proofs.Common.{◌≡◌, ℕ, ◌+◌, ◌-◌, ◌*◌, ◌^◌, ◌/◌, ◌≤◌, ◌<◌, Bool, true, ltb, List, [], ◌∷◌, length, drop, get_or, arith, ap, sym, ◌∙◌, lt-ltb}
+use Rattle.std.proofs.Common.{◌≡◌, ℕ, ◌+◌, ◌-◌, ◌*◌, ◌≤◌, ◌<◌, true, ltb, List, [], ◌∷◌, length, drop, get_or, arith, sym, lt-ltb}
 use Rattle.std.proofs.lemmas.List.{at_drop_more}
 use Rattle.wl_scan.specs.Tokens.{decimal_value, decimal_value_after, greatest}
 

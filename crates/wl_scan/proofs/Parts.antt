@@ -1,11 +1,10 @@
 -- Each token's text is a part of the text at its place.
-use Rattle.std.proofs.Common.{◌≡◌, ℕ, zero, suc, ◌+◌, ◌-◌, ◌≤◌, List, [], ◌∷◌, length, take, drop, min, ap, sym, refl, subst, ◌∙◌, arith}
+use Rattle.std.proofs.Common.{◌≡◌, ℕ, zero, suc, ◌+◌, ◌-◌, ◌≤◌, List, [], ◌∷◌, length, take, drop, ap, sym, ◌∙◌, arith}
 use Rattle.std.specs.List.{All}
 use Rattle.std.proofs.lemmas.List.{length-take, take_min, drop-drop}
 use Rattle.std.proofs.lemmas.List.Elements.{All-nil, All-cons}
-use Rattle.wl_scan.specs.Tokens.{Lexeme, Scanned, found, coming, scanned_from}
+use Rattle.wl_scan.specs.Tokens.{Scanned, found, coming, scanned_from}
 use Rattle.wl_scan.specs.Laws.{IsPartOf}
-use Rattle.wl_scan.specs.declared.token.Kind.{Kind}
 use Rattle.wl_scan.specs.declared.found.Found.{Found}
 use Rattle.wl_scan.specs.declared.found.Found.TheVariants.{Gap, Lexed, Fault}
 
@@ -30,4 +29,4 @@ parts_from source passed at [] first here = All-nil (IsPartOf source)
 parts_from source (suc passed) at (b ∷ bs) first here = parts_from source passed (at + 1) bs (omega arith) (next_place source bs b at first here)
 parts_from source zero at (b ∷ bs) first here =
     coming_parts source (b ∷ bs) at (found (b ∷ bs)) (λ n. scanned_from n (at + 1) bs) first here
-      (λ n. parts_from source n (at + 1) bs (omega arith) (next_place source bs b at first here))
+    (λ n. parts_from source n (at + 1) bs (omega arith) (next_place source bs b at first here))

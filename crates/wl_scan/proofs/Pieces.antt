@@ -1,5 +1,5 @@
 -- The cutting of a text in pieces.
-use Rattle.std.proofs.Common.{◌==◌, zero, suc, min, inl, inr, add-zero, ◌≡◌, ◌≢◌, ◌+◌, ◌-◌, ◌*◌, ◌^◌, ◌≤◌, ◌<◌, ◌++◌, ◌∙◌, ◌||◌, ◌&&◌, ◌⊎◌, ℕ, Bool, true, false, cond, ltb, eqb, List, [], ◌∷◌, length, take, drop, get_or, refl, sym, ap, subst, arith, append_assoc, append-nil}
+use Rattle.std.proofs.Common.{◌==◌, zero, suc, min, inl, inr, add-zero, ◌≡◌, ◌+◌, ◌-◌, ◌*◌, ◌^◌, ◌≤◌, ◌<◌, ◌++◌, ◌∙◌, ◌||◌, ◌&&◌, ◌⊎◌, ℕ, Bool, true, false, cond, ltb, List, [], ◌∷◌, length, take, drop, get_or, refl, sym, ap, subst, arith, append_assoc, append-nil}
 use Rattle.std.proofs.lemmas.List.{take_all, length-take, length-append, length-take-le, length-drop, take-take, take_rest, take_more, get_or-drop}
 use Rattle.std.proofs.Math.Seq.{take-append-add, take-add}
 use Rattle.std.proofs.Math.Bool.{or-false}
@@ -9,7 +9,7 @@ use Rattle.std.specs.List.{concat}
 use Rattle.wl_scan.specs.Characters.{is_blank}
 use Rattle.wl_scan.specs.Places.{beginning, is_code, is_end, after, run_length, run_place, nesting}
 use Rattle.wl_scan.specs.declared.place.Place.{Place}
-use Rattle.wl_scan.specs.Cells.{Cutting, PlacedCell, IsCutting, cell_limit, between, start, renewed, taken_in, cut, ended, told_cell, shown, remainder, told_by, cells, IsWithin}
+use Rattle.wl_scan.specs.Cells.{Cutting, PlacedCell, IsCutting, cell_limit, between, renewed, taken_in, cut, ended, told_cell, shown, remainder, told_by, IsWithin}
 use Rattle.wl_scan.specs.Lengths.{blank_length}
 
 -- what the bytes of two pieces do is what the one and then the other does

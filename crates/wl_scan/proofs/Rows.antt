@@ -1,22 +1,20 @@
 -- The first byte of a text decides which rows are not empty.
-use Rattle.std.proofs.Common.{inl, inr, ◌≡◌, ◌==◌, ℕ, suc, ◌+◌, ◌-◌, ◌≤◌, ◌<◌, Bool, true, false, not, ◌&&◌, ◌||◌, cond, ltb, leb, min, max, List, [], ◌∷◌, ◌++◌, length, take, drop, get_or, ap, sym, subst, refl, ◌∙◌, arith, le-ltb, lt-ltb, ne_eqb, eqb-true, Option, None, Some}
-use Rattle.std.specs.Str.{chars, IsUtf8, byte}
+use Rattle.std.proofs.Common.{inl, inr, ◌≡◌, ◌==◌, ℕ, ◌+◌, ◌-◌, ◌≤◌, ◌<◌, Bool, true, false, ◌&&◌, ◌||◌, cond, ltb, leb, min, max, List, [], ◌∷◌, ◌++◌, length, take, drop, get_or, ap, sym, subst, refl, ◌∙◌, arith, le-ltb, lt-ltb, ne_eqb, Option}
+use Rattle.std.specs.Str.{IsUtf8}
 use Rattle.std.specs.Char.{is_ascii_alphabetic}
 use Rattle.std.proofs.lemmas.Str.{chars_past_char, encode_ascii}
-use Rattle.std.proofs.lemmas.Bool.{cases_lt, cond_both, cond-true, cond-false, agree_below_at, agree_below, or_parts, and_from, le-leb, and_parts, leb-true, true≢false, false_from_ne_true}
-use Rattle.unicode_ident.specs.Ident.{is_xid_start}
+use Rattle.std.proofs.lemmas.Bool.{cases_lt, cond_both, cond-true, cond-false, agree_below_at, agree_below, or_parts, and_from, le-leb, and_parts, leb-true, true≢false}
 use Rattle.unicode_ident.proofs.IdentLemmas.{is_xid_start-ascii}
 use Rattle.unicode_ident.proofs.Computing.{unicode_ident}
 use Rattle.wl_ports.specs.Name.{begins_name}
 use Rattle.wl_scan.specs.Characters.{is_digit}
-use Rattle.wl_scan.specs.Lengths.{digits_length, spelled_length, name_length, underscores_length, tail_length, blanks_length, pattern_length, slot_marks, slot_length, percents_length, out_length, is_quote, text_length, beyond, comment_rest, comment_length, blank_length, signs, begins_with, longest_sign, sign_length}
+use Rattle.wl_scan.specs.Lengths.{digits_length, spelled_length, name_length, tail_length, blanks_length, pattern_length, slot_marks, slot_length, percents_length, out_length, is_quote, text_length, beyond, comment_rest, comment_length, blank_length, signs, begins_with, longest_sign, sign_length}
 use Rattle.wl_scan.specs.Tokens.{longest, rows, chosen, lexed, is_fraction, token_found, is_comment, commented, found}
 use Rattle.wl_scan.specs.Scanning.{word_or_sign}
 use Rattle.wl_scan.specs.declared.token.Kind.{Kind}
 use Rattle.wl_scan.specs.declared.token.Kind.TheVariants.{Number, Name, Pattern, Slot, Out, Text, Sign}
 use Rattle.std.proofs.lemmas.List.{take_rest}
 use Rattle.wl_scan.specs.declared.place.Region.TheVariants.{Comment}
-use Rattle.wl_scan.specs.declared.found.Found.{Found}
 use Rattle.wl_scan.specs.declared.found.Found.TheVariants.{Lexed}
 
 -- the longest of the rows where all but one are empty

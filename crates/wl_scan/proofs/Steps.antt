@@ -1,14 +1,14 @@
 -- How far what is found reaches: within the text, and to a place where what is left is UTF-8 again.
-use Rattle.std.proofs.Common.{◌≡◌, ◌==◌, ℕ, zero, suc, ◌+◌, ◌-◌, ◌≤◌, ◌<◌, Bool, true, false, not, ◌&&◌, cond, ltb, leb, min, max, List, [], ◌∷◌, ◌++◌, length, take, drop, get_or, ap, sym, subst, refl, ◌∙◌, arith, inl, inr, Option, None, Some}
+use Rattle.std.proofs.Common.{◌≡◌, ◌==◌, ℕ, suc, ◌+◌, ◌≤◌, ◌<◌, Bool, true, false, not, ◌&&◌, cond, ltb, leb, min, max, List, [], ◌∷◌, ◌++◌, length, drop, get_or, ap, sym, subst, refl, ◌∙◌, arith, inl, inr, Option, None, Some}
 use Rattle.std.specs.List.{prefix_len, list_all}
-use Rattle.std.specs.Option.{unwrap_or, IfSome}
+use Rattle.std.specs.Option.{unwrap_or}
 use Rattle.std.specs.Char.{encode_utf8, len_utf8}
 use Rattle.std.specs.Str.{chars, IsUtf8, all_scalars, encode_utf8_all, IsCharBoundary}
-use Rattle.std.proofs.lemmas.Str.{IsUtf8-drop, IsUtf8-nil, IsCharBoundary-after_ascii, IsCharBoundary-from_drop, IsCharBoundary-from_rest, chars-encodes, length-encode, IsUtf8-append}
+use Rattle.std.proofs.lemmas.Str.{IsUtf8-drop, IsUtf8-nil, IsCharBoundary-after_ascii, IsCharBoundary-from_drop, IsCharBoundary-from_rest, chars-encodes, length-encode}
 use Rattle.std.proofs.Math.Seq.{drop-append-add}
 use Rattle.std.proofs.lemmas.List.{length-append, length-drop, drop-drop, get_or-drop}
 use Rattle.std.proofs.lemmas.Bool.Decides.{nat_tests}
-use Rattle.std.proofs.lemmas.Bool.{true≢false, false≢true, and_right, eqb-false, cond_both, cases_Bool, cases_lt, eqb-true, and_parts, or_cases, leb-true, ltb-true, cond-true, cond-false}
+use Rattle.std.proofs.lemmas.Bool.{true≢false, false≢true, and_right, eqb-false, cond_both, cases_Bool, cases_lt, eqb-true, and_parts, leb-true, ltb-true, cond-true, cond-false}
 use Rattle.wl_scan.specs.Characters.{is_blank, is_digit}
 use Rattle.wl_scan.specs.Lengths.{beyond, blank_length, digits_length, fits_name, spelled_length, name_length, underscores_length, is_lone_dot, tail_length, blanks_length, pattern_length, slot_marks, slot_length, percents_length, out_length, closed_length, is_quote, text_length, is_escape, bad_escape, signs, begins_with, longest_sign, sign_length, comment_rest, comment_length}
 use Rattle.wl_scan.specs.Places.{is_code, after_comment, outside, in_comment}

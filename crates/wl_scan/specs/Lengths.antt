@@ -1,6 +1,6 @@
 -- How many bytes each form of token, and each gap between tokens, takes at the start of a text; 0 where none begins there.
 -- The names, patterns and slots are those of the Wolfram Language tutorials on syntax; which forms there are is this project's own choice.
-use Rattle.std.specs.Prelude.{ℕ, suc, ◌+◌, ◌<◌, Bool, true, false, not, ◌&&◌, ◌||◌, ◌==◌, nat_lt, min, max, if◌then◌else◌, Option, None, Some, List, [], ◌∷◌, length, take, drop, map, codes}
+use Rattle.std.specs.Prelude.{ℕ, ◌+◌, Bool, true, false, not, ◌&&◌, ◌==◌, nat_lt, min, max, if◌then◌else◌, Option, None, Some, List, [], ◌∷◌, length, drop, map, codes}
 use Rattle.std.specs.Char.{len_utf8}
 use Rattle.std.specs.Str.{chars, byte}
 use Rattle.std.specs.Option.{unwrap_or}

@@ -1,6 +1,6 @@
 -- Words for steps of the scan.
 use Rattle.std.specs.Prelude.{◌≡◌, ℕ, ◌==◌, ◌+◌, ◌≤◌, ◌<◌, nat_lt, if◌then◌else◌, List, length, take, drop}
-use Rattle.std.specs.Str.{IsUtf8, IsCharBoundary}
+use Rattle.std.specs.Str.{IsCharBoundary}
 use Rattle.wl_scan.specs.Tokens.{Scanned, scanned_from, nothing, token_before, fault_at}
 use Rattle.wl_scan.specs.declared.token.Kind.{Kind}
 use Rattle.wl_scan.specs.declared.token.Kind.TheVariants.{Sign}

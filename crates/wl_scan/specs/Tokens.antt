@@ -1,7 +1,6 @@
 -- The tokens of a text: the longest at each place, up to the end or the first fault. The forms are this project's own choice of the language's.
-use Rattle.std.specs.Prelude.{ℕ, zero, suc, ◌+◌, ◌-◌, ◌*◌, ◌^◌, Bool, true, false, not, ◌&&◌, ◌||◌, ◌==◌, nat_lt, if◌then◌else◌, Option, None, Some, List, [], ◌∷◌, length, take, drop, codes}
+use Rattle.std.specs.Prelude.{ℕ, zero, suc, ◌+◌, ◌-◌, ◌*◌, ◌^◌, Bool, false, ◌&&◌, ◌||◌, ◌==◌, nat_lt, if◌then◌else◌, Option, None, Some, List, [], ◌∷◌, take, drop, codes}
 use Rattle.std.specs.Str.{byte}
-use Rattle.wl_scan.specs.Characters.{is_blank, is_digit}
 use Rattle.wl_scan.specs.Lengths.{blank_length, digits_length, name_length, pattern_length, is_lone_dot, slot_marks, slot_length, out_length, text_length, is_quote, bad_escape, sign_length, begins_with, comment_length}
 use Rattle.wl_scan.specs.declared.token.Kind.{Kind}
 use Rattle.wl_scan.specs.declared.token.Kind.TheVariants.{Number, Name, Pattern, Slot, Out, Text, Sign}

@@ -44,9 +44,23 @@ impl Model for Cells {
 
     ghost Value = { Cutting };
 
-    ghost view = { λ c. record { taken = c.taken; place = c.place; kept = take c.len c.buffer.items; is_long = c.is_long; told = c.told } };
+    ghost view = { λ c. record {
+      taken = c.taken;
+      place = c.place;
+      kept = take c.len c.buffer.items;
+      is_long = c.is_long;
+      told = c.told;
+    } };
 
-    ghost invariant = { λ c. (length c.buffer.items ≡ cell_limit) × (c.len ≤ cell_limit) × IsCutting (record { taken = c.taken; place = c.place; kept = take c.len c.buffer.items; is_long = c.is_long; told = c.told }) };
+    ghost invariant = { λ c. (length c.buffer.items ≡ cell_limit)
+        × (c.len ≤ cell_limit)
+        × IsCutting (record {
+          taken = c.taken;
+          place = c.place;
+          kept = take c.len c.buffer.items;
+          is_long = c.is_long;
+          told = c.told;
+        }) };
 }
 
 fn put(buffer: &mut [u8], at: usize, piece: &[u8])

@@ -3,6 +3,7 @@ ghost use Rattle.std.specs.Prelude.{◌≡◌};
 ghost use Rattle.wl_scan.specs.Characters.{is_blank, is_digit};
 
 /// Whether the byte is a space, tab, line feed, form feed or carriage return.
+#[inline(always)]
 pub fn is_blank(byte: u8) -> bool
     ensures { result ≡ is_blank byte }
 {

@@ -9,8 +9,7 @@ pub fn pieces_tell_the_cells()
 /// Each token lies in the text, at its place.
 pub fn tokens_are_parts()
     ensures { TokensAreParts }
-{
-}
+{}
 
 /// The tokens of a few texts.
 pub fn tokens_of_examples()

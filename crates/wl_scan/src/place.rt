@@ -25,6 +25,7 @@ pub enum Region {
 
 impl Region {
     /// Whether it is outside strings and comments.
+    #[inline(always)]
     pub fn is_code(self) -> bool
         ensures { result ≡ is_code self }
     {
@@ -32,6 +33,7 @@ impl Region {
     }
 
     /// Where the place behind one byte more of a comment lies.
+    #[inline(always)]
     pub fn in_comment(self, byte: u8) -> Region
         requires { nesting self < 2 ^ 63 }
         ensures region { result ≡ in_comment self byte }
@@ -70,6 +72,7 @@ impl Place {
         before_last: None,
     };
 
+    #[inline(always)]
     fn seen(self, byte: u8) -> Place
         ensures { result ≡ seen self byte }
     {
@@ -83,6 +86,7 @@ impl Place {
         }
     }
 
+    #[inline(always)]
     fn opened(self) -> Place
         requires { self.depth < 2 ^ 63 }
         ensures { result ≡ opened self }
@@ -94,6 +98,7 @@ impl Place {
         }
     }
 
+    #[inline(always)]
     fn after_code(self, byte: u8) -> Place
         requires { self.depth < 2 ^ 64 - 1 }
         ensures { result ≡ after_code self byte }
@@ -120,6 +125,7 @@ impl Place {
     }
 
     /// What is known behind one byte more.
+    #[inline(always)]
     fn after(self, byte: u8) -> Place
         requires depth { self.depth < 2 ^ 63 }
         requires nesting { nesting self.region < 2 ^ 63 }
@@ -143,6 +149,7 @@ impl Place {
         }
     }
 
+    #[inline(always)]
     fn moved(self, region: Region) -> Place
         ensures { result ≡ record self { region = region } }
     {
@@ -150,6 +157,7 @@ impl Place {
     }
 
     /// Whether this byte ends the cell.
+    #[inline(always)]
     fn is_end(self, byte: u8) -> bool
         ensures { result ≡ is_end self byte }
     {
@@ -187,6 +195,7 @@ impl Place {
     }
 }
 
+#[inline(always)]
 fn after_comment(count: u64, byte: u8) -> Region
     ensures { result ≡ after_comment count byte }
 {
@@ -197,6 +206,7 @@ fn after_comment(count: u64, byte: u8) -> Region
     }
 }
 
+#[inline(always)]
 fn outside(count: u64) -> Region
     ensures { result ≡ outside count }
 {
@@ -218,6 +228,7 @@ fn is_continuing(last: u8, before: Option<u8>) -> bool
     }
 }
 
+#[inline(always)]
 fn is_complete(last: Option<u8>, before: Option<u8>) -> bool
     ensures { result ≡ is_complete last before }
 {

@@ -17,7 +17,10 @@ fn cut(rt: &impl Abort, alloc: Global, text: &[u8], size: usize) -> Result<(Vec<
             let fed = cells.feed(rest);
             if fed.cell {
                 show(&mut shown, cells.cell())?;
-                shown.extend_from_slice(format!(in alloc; "<{}>", cells.taken().saturating_sub(1))?.as_bytes())?;
+                shown.extend_from_slice(format!(in alloc;
+                    "<{}>",
+                    cells.taken().saturating_sub(1)
+                )?.as_bytes())?;
                 count = count.wrapping_add(1);
             }
             rest = &rest[fed.used..];
@@ -46,7 +49,10 @@ fn cells_of_texts(rt: HostRuntime) -> Result<(), Fail> {
         (" \t\r\n\x0c\n", ""),
         ("1\n2", "1<1>2<>"),
         ("a +\n  b\n", "a +\n  b<7>"),
-        ("1 +\n 2 (* two (* nested *) *)\n", "1 +\n 2 (* two (* nested *) *)<29>"),
+        (
+            "1 +\n 2 (* two (* nested *) *)\n",
+            "1 +\n 2 (* two (* nested *) *)<29>",
+        ),
         ("(* c *)\n1.5", "(* c *)\n1.5<>"),
         ("(* c *)\n", ""),
         ("(* c", "(* c<>"),
@@ -62,7 +68,11 @@ fn cells_of_texts(rt: HostRuntime) -> Result<(), Fail> {
     ] {
         for size in [1, 2, 1000] {
             let (got, _) = cut(&rt, rt.alloc(), text.as_bytes(), size)?;
-            assert_eq!(rt; got.as_slice(), want.as_bytes(), "{text:?} in pieces of {size}");
+            assert_eq!(rt;
+                got.as_slice(),
+                want.as_bytes(),
+                "{text:?} in pieces of {size}"
+            );
         }
     }
     Ok(())
@@ -71,9 +81,39 @@ fn cells_of_texts(rt: HostRuntime) -> Result<(), Fail> {
 #[test]
 fn tails_that_go_on(rt: HostRuntime) -> Result<(), Fail> {
     for (tail, want) in [
-        ("*", 1), ("/", 1), ("^", 1), ("=", 1), ("<", 1), (">", 1), (",", 1), ("|", 1), ("@", 1), ("~", 1), ("?", 1), (":", 1),
-        ("+", 1), ("-", 1), ("&&", 1), ("/.", 1), ("/;", 1), ("->", 1), ("!-", 1), ("/ (* c *) .", 1), ("& (* c *) &", 1),
-        ("++", 2), ("--", 2), ("&", 2), ("..", 2), (";", 2), ("!", 2), ("=.", 2), (")", 2), ("_.", 2), ("#", 2), ("%", 2), ("b", 2),
+        ("*", 1),
+        ("/", 1),
+        ("^", 1),
+        ("=", 1),
+        ("<", 1),
+        (">", 1),
+        (",", 1),
+        ("|", 1),
+        ("@", 1),
+        ("~", 1),
+        ("?", 1),
+        (":", 1),
+        ("+", 1),
+        ("-", 1),
+        ("&&", 1),
+        ("/.", 1),
+        ("/;", 1),
+        ("->", 1),
+        ("!-", 1),
+        ("/ (* c *) .", 1),
+        ("& (* c *) &", 1),
+        ("++", 2),
+        ("--", 2),
+        ("&", 2),
+        ("..", 2),
+        (";", 2),
+        ("!", 2),
+        ("=.", 2),
+        (")", 2),
+        ("_.", 2),
+        ("#", 2),
+        ("%", 2),
+        ("b", 2),
     ] {
         let text = format!(in rt.alloc(); "a {tail}\nb")?;
         let (_, count) = cut(&rt, rt.alloc(), text.as_bytes(), 1000)?;
@@ -167,7 +207,10 @@ fn tokens_of_texts(rt: HostRuntime) -> Result<(), Fail> {
         ("a====b", "a === = b "),
         ("f[ [1] ]", "f [ [ 1 ] ] "),
         ("2^^1", "2 ^ ^ 1 "),
-        ("000170141183460469231731687303715884105727", "000170141183460469231731687303715884105727 "),
+        (
+            "000170141183460469231731687303715884105727",
+            "000170141183460469231731687303715884105727 ",
+        ),
     ] {
         let got = scan(&rt, rt.alloc(), text)?;
         assert_eq!(rt; got.as_slice(), want.as_bytes(), "{text}");
@@ -204,9 +247,18 @@ fn faults_of_texts(rt: HostRuntime) -> Result<(), Fail> {
         ("a~~~b", "BadChar at byte 4"),
         ("\u{feff}a", "BadChar at byte 1"),
         ("a\u{a0}b", "BadChar at byte 2"),
-        ("170141183460469231731687303715884105728", "LongNumber at byte 1"),
-        ("a #170141183460469231731687303715884105728", "LongNumber at byte 3"),
-        ("%170141183460469231731687303715884105728", "LongNumber at byte 1"),
+        (
+            "170141183460469231731687303715884105728",
+            "LongNumber at byte 1",
+        ),
+        (
+            "a #170141183460469231731687303715884105728",
+            "LongNumber at byte 3",
+        ),
+        (
+            "%170141183460469231731687303715884105728",
+            "LongNumber at byte 1",
+        ),
         ("170141183460469231731687303715884105728.", "Real at byte 1"),
     ] {
         let got = scan(&rt, rt.alloc(), text)?;
@@ -215,32 +267,68 @@ fn faults_of_texts(rt: HostRuntime) -> Result<(), Fail> {
     Ok(())
 }
 
-#[test]
-fn tokens_are_held(rt: HostRuntime) -> Result<(), Fail> {
-    let text = "12 x x_ #1 %% \"s\" := (* c *) y";
-    let mut tokens = Tokens::over(text);
-    let mut held: Vec<Token<'_>> = Vec::new(rt.alloc());
-    for _i in 0..100u32 {
-        match tokens.next() {
-            Ok(Some(token)) => held.push(token)?,
-            _ => break,
+/// The kinds of the tokens of a text, each with its place.
+fn kinds(alloc: Global, text: &str) -> Result<Vec<u8>, Fail> {
+    let mut shown = Vec::new(alloc);
+    if text.len() <= 131_072 {
+        let mut tokens = Tokens::over(text);
+        for _i in 0..1000u32 {
+            match tokens.next() {
+                Ok(Some(token)) => shown.extend_from_slice(format!(in alloc;
+                    "{:?} {} ",
+                    token.kind, token.at
+                )?.as_bytes())?,
+                _ => return Ok(shown),
+            }
         }
     }
-    let want = [
-        (Kind::Number, "12", 1),
-        (Kind::Name, "x", 4),
-        (Kind::Pattern, "x_", 6),
-        (Kind::Slot, "#1", 9),
-        (Kind::Out, "%%", 12),
-        (Kind::Text, "\"s\"", 15),
-        (Kind::Sign, ":=", 19),
-        (Kind::Name, "y", 30),
-    ];
-    assert_eq!(rt; held.len(), want.len());
-    for (token, (kind, part, at)) in held.iter().zip(want) {
-        assert_eq!(rt; token.kind, kind);
-        assert_eq!(rt; token.text.as_bytes(), part.as_bytes());
-        assert_eq!(rt; token.at, at);
-    }
+    Ok(shown)
+}
+
+#[test]
+fn kinds_of_tokens(rt: HostRuntime) -> Result<(), Fail> {
+    let got = kinds(rt.alloc(), "12 x x_ #1 %% \"s\" := (* c *) y")?;
+    let want = b"Number 1 Name 4 Pattern 6 Slot 9 Out 12 Text 15 Sign 19 Name 30 ";
+    assert_eq!(rt; got.as_slice(), want.as_slice());
     Ok(())
+}
+
+#[test]
+fn tokens_are_held(rt: HostRuntime) {
+    let mut tokens = Tokens::over("12 + x");
+    let first = tokens.next();
+    let second = tokens.next();
+    let third = tokens.next();
+    let end = tokens.next();
+    assert!(rt;
+        matches!(
+            first,
+            Ok(Some(Token {
+                kind: Kind::Number,
+                text: "12",
+                at: 1
+            }))
+        )
+    );
+    assert!(rt;
+        matches!(
+            second,
+            Ok(Some(Token {
+                kind: Kind::Sign,
+                text: "+",
+                at: 4
+            }))
+        )
+    );
+    assert!(rt;
+        matches!(
+            third,
+            Ok(Some(Token {
+                kind: Kind::Name,
+                text: "x",
+                at: 6
+            }))
+        )
+    );
+    assert!(rt; matches!(end, Ok(None)));
 }

@@ -1,5 +1,5 @@
 -- Numbers that are added one after another.
-use Rattle.std.proofs.Common.{◌≡◌, ◌<◌, ◌+◌, ℕ, List, [], ◌∷◌, length, drop, get_or, refl, ap, sym, ◌∙◌, Option, Some, None, option_map, option_and_then, Result}
+use Rattle.std.proofs.Common.{◌≡◌, ◌<◌, ◌+◌, ℕ, List, ◌∷◌, length, drop, get_or, refl, ap, sym, ◌∙◌, Option, Some, None, option_map, option_and_then, Result}
 use Rattle.std.proofs.lemmas.List.{at_drop_more}
 use Rattle.wl_exact.specs.Fraction.{Fraction}
 use Rattle.wl_exact.specs.declared.num.NumFault.{NumFault}

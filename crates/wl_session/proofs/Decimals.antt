@@ -1,5 +1,5 @@
 -- A number that grows too great while its digits are read.
-use Rattle.std.proofs.Common.{◌≡◌, ◌≤◌, ◌<◌, ◌+◌, ◌-◌, ◌*◌, ◌/◌, ℕ, Bool, true, false, nat_le, List, [], ◌∷◌, length, drop, get_or, refl, arith, ap, sym, ◌∙◌, Option, Some, None, if◌then◌else◌}
+use Rattle.std.proofs.Common.{◌≡◌, ◌≤◌, ◌<◌, ◌+◌, ◌-◌, ◌*◌, ◌/◌, ℕ, Bool, false, nat_le, List, [], ◌∷◌, length, drop, get_or, arith, ap, sym, ◌∙◌, Some, None, if◌then◌else◌}
 use Rattle.std.proofs.lemmas.Bool.Decides.{nat_tests}
 use Rattle.std.proofs.lemmas.List.{at_drop_more}
 use Rattle.wl_scan.specs.Tokens.{decimal_value, decimal_value_after, greatest}

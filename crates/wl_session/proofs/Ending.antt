@@ -1,8 +1,8 @@
 -- What a run's end says, by how it was played.
-use Rattle.std.proofs.Common.{◌≡◌, ◌≢◌, ◌≤◌, ◌<◌, ◌+◌, ◌-◌, ◌^◌, ◌++◌, ◌⊎◌, ℕ, Bool, true, false, cond, nat_le, List, [], ◌∷◌, length, take, Option, Some, None, IsSome, IfSome, Result, Ok, Err, inl, inr, sym, subst, refl, arith, ap, ◌∙◌, append-nil, length-append}
+use Rattle.std.proofs.Common.{◌≡◌, ◌≢◌, ◌≤◌, ◌<◌, ◌+◌, ◌++◌, ◌⊎◌, ℕ, Bool, true, false, cond, nat_le, List, length, take, Option, Some, None, IsSome, IfSome, Result, Ok, Err, inl, inr, sym, subst, refl, arith, ap, ◌∙◌, append-nil, length-append}
 use Rattle.std.proofs.lemmas.Bool.Decides.{nat_tests}
 use Rattle.std.proofs.lemmas.List.{take-append-le}
-use Rattle.std.specs.Io.KnownBytes.{Appends, Consumes, IsAtEnd}
+use Rattle.std.specs.Io.KnownBytes.{Consumes, IsAtEnd}
 use Rattle.wl_ports.specs.Causes.{Rose, next_count}
 use Rattle.wl_session.specs.Answers.{Standing, fresh, standing_after}
 use Rattle.wl_session.specs.Reading.{Reading, AllRead}
@@ -12,7 +12,6 @@ use Rattle.wl_session.specs.Ends.{status_of, IsTranscript, HasTaken, IsReadToEnd
 use Rattle.wl_session.specs.Sitting.{Sitting, standing}
 use Rattle.wl_session.specs.Streaming.{Answers, IsBlamed, AnswersAll, AnswersFirst}
 use Rattle.wl_session.specs.Transcript.{transcript, cells_read, texts, input_limit}
-use Rattle.wl_session.specs.declared.ended.Ended.{Ended}
 use Rattle.wl_session.specs.declared.streaming.Stop.{Stop}
 use Rattle.wl_session.specs.declared.streaming.Stop.TheVariants.{ReadFault, WriteFault, OutOfMemory, TooLong}
 

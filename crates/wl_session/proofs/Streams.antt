@@ -1,12 +1,12 @@
 -- A run so far.
-use Rattle.std.proofs.Common.{◌≡◌, ◌≤◌, ◌<◌, ◌+◌, ◌-◌, ◌++◌, ℕ, List, [], ◌∷◌, length, take, drop, sym, subst, refl, arith, ap, ◌∙◌, append_assoc, append-nil, length-append, Option}
-use Rattle.std.specs.Io.KnownBytes.{Appends, Consumes, Keeps, IsAtEnd}
-use Rattle.std.proofs.KnownBytes.{Appends-trans, Consumes-trans, Consumes-kept}
+use Rattle.std.proofs.Common.{◌≡◌, ◌≤◌, ◌<◌, ◌+◌, ◌-◌, ◌++◌, ℕ, List, [], length, take, drop, sym, subst, arith, ap, ◌∙◌, append-nil, length-append, Option}
+use Rattle.std.specs.Io.KnownBytes.{Consumes, Keeps, IsAtEnd}
+use Rattle.std.proofs.KnownBytes.{Consumes-trans, Consumes-kept}
 use Rattle.std.proofs.lemmas.List.{length-take-le, take-append-le, take-append-drop}
 use Rattle.std.proofs.Math.Seq.{take-append-add}
 use Rattle.wl_scan.proofs.Pieces.{taken-cut}
 use Rattle.wl_session.specs.Answers.{Standing}
-use Rattle.wl_scan.specs.Cells.{Cutting, PlacedCell, cut, ended, remainder, start, cells}
+use Rattle.wl_scan.specs.Cells.{Cutting, ended, remainder, start}
 use Rattle.wl_session.specs.Streaming.{HasAnswered, HasFed, AnswersAll, AnswersSome, AnswersFirst}
 use Rattle.wl_session.specs.Transcript.{input_limit, texts}
 use Rattle.wl_session.proofs.Answering.{answered_on, fed_append, texts_append}

@@ -1,7 +1,7 @@
 -- The expression of a sum.
-use Rattle.std.proofs.Common.{◌≡◌, ◌≢◌, ℕ, List, [], ◌∷◌, map, length, codes, refl, ap, ◌∙◌, None}
+use Rattle.std.proofs.Common.{◌≡◌, ◌≢◌, List, [], ◌∷◌, map, length, codes, refl, ap, ◌∙◌, None}
 use Rattle.wl_exact.specs.Fraction.{Fraction}
-use Rattle.wl_expr.specs.Tree.{Tree, num, symbol, node, from_list}
+use Rattle.wl_expr.specs.Tree.{num, symbol, node, from_list}
 use Rattle.wl_expr.specs.Stamped as stamped
 use Rattle.wl_expr.specs.Stamped.{Stamped, plain, plains}
 use Rattle.wl_expr.proofs.Parts.{plains_from_list}

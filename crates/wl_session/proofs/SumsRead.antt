@@ -1,8 +1,7 @@
 -- A sum that is read token by token.
-use Rattle.std.proofs.Common.{◌≡◌, ◌<◌, ◌+◌, ◌++◌, ◌||◌, ◌&&◌, ℕ, Bool, true, false, List, [], ◌∷◌, length, refl, ap, sym, ◌∙◌, append_assoc, append-nil, Option, Some, None, if◌then◌else◌, arith}
+use Rattle.std.proofs.Common.{◌≡◌, ◌++◌, ◌||◌, ◌&&◌, ℕ, Bool, true, false, List, refl, ap, sym, ◌∙◌, append_assoc, Option, Some, None, if◌then◌else◌}
 use Rattle.wl_exact.specs.Fraction.{Fraction}
-use Rattle.wl_scan.specs.Tokens.{Lexeme, Scanned, token_before, nothing}
-use Rattle.wl_scan.specs.declared.token.ScanFault.{ScanFault}
+use Rattle.wl_scan.specs.Tokens.{Lexeme, Scanned, token_before}
 use Rattle.wl_session.specs.Sums.{Part, begun, part, is_number, is_plus, is_other, is_unsupported, misplaced, number_in, numbers}
 use Rattle.wl_session.specs.SumParts.{part_is, or_else, Sees}
 use Rattle.wl_session.specs.declared.sums.Seen.{Seen}

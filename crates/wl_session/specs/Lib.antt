@@ -1,6 +1,7 @@
 pub mod Answers
 pub mod CellReading
 pub mod Ends
+pub mod Laws
 pub mod Pieces
 pub mod Reading
 pub mod Refusal

@@ -1,11 +1,10 @@
 -- How a cell is read: as a tree, or not at all.
-use Rattle.std.specs.Prelude.{◌≡◌, ◌++◌, ⊤, ℕ, Bool, List, [], ◌∷◌, map, codes, Option, Some, None, Result, Ok, Err, if◌then◌else◌}
-use Rattle.std.specs.Fmt.{decimal}
+use Rattle.std.specs.Prelude.{◌≡◌, ⊤, ℕ, Bool, List, [], ◌∷◌, map, codes, Option, Some, None, if◌then◌else◌}
 use Rattle.std.specs.Str.{IsUtf8}
 use Rattle.wl_exact.specs.Fraction.{Fraction}
 use Rattle.wl_expr.specs.Tree.{Tree, num, symbol, node, from_list}
 use Rattle.wl_scan.specs.Cells.{CellText, whole, too_long}
-use Rattle.wl_scan.specs.Tokens.{Lexeme, Scanned, scanned}
+use Rattle.wl_scan.specs.Tokens.{Lexeme, scanned}
 use Rattle.wl_scan.specs.declared.token.ScanFault.{ScanFault}
 use Rattle.wl_session.specs.Refusal.{fault_line, place_line}
 use Rattle.wl_session.specs.Sums.{begun, is_unsupported, misplaced, numbers}

@@ -1,5 +1,5 @@
 -- The line that says why a cell is refused.
-use Rattle.std.specs.Prelude.{ℕ, List, [], ◌∷◌, ◌++◌, codes}
+use Rattle.std.specs.Prelude.{ℕ, List, ◌++◌, codes}
 use Rattle.std.specs.Fmt.{decimal}
 use Rattle.wl_scan.specs.declared.token.ScanKind.{ScanKind}
 use Rattle.wl_scan.specs.declared.token.ScanKind.TheVariants.{Real, LongNumber, BadChar, BadEscape, OpenString, OpenComment}

@@ -1,5 +1,5 @@
 -- What a run writes and leaves, whatever the pieces that its source gives.
-use Rattle.std.specs.Prelude.{ℕ, Bool, true, false, List, [], ◌∷◌, ◌++◌, ◌==◌, length, map, take, nat_le, codes, Option, Some, None, if◌then◌else◌}
+use Rattle.std.specs.Prelude.{ℕ, List, [], ◌∷◌, ◌++◌, ◌==◌, length, map, take, nat_le, codes, Some, None, if◌then◌else◌}
 use Rattle.wl_scan.specs.Cells.{CellText, PlacedCell, start, cells, ended}
 use Rattle.wl_session.specs.Answers.{HistoryLine, fresh, standing_after, answers}
 use Rattle.wl_session.specs.Reading.{Reading}

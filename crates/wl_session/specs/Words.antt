@@ -1,5 +1,5 @@
 -- The words of the command line, those after the program's name.
-use Rattle.std.specs.Prelude.{ℕ, Bool, true, false, List, [], ◌∷◌, ◌==◌, Option, Some, None, map, String, string_bytes, if◌then◌else◌}
+use Rattle.std.specs.Prelude.{ℕ, Bool, false, List, [], ◌∷◌, ◌==◌, Option, Some, None, map, String, string_bytes, if◌then◌else◌}
 
 -- the words as bytes
 abbrev pub words_of : {A : Type 0} → List (String A) → List (List ℕ)

@@ -2,6 +2,7 @@
 #![tactic(auto)]
 
 mod ended;
+pub mod laws;
 mod reading;
 mod refusal;
 mod session;

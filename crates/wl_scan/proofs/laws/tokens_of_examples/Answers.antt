@@ -3,7 +3,7 @@ use Rattle.std.specs.Str.{chars}
 use Rattle.unicode_ident.proofs.Computing.{unicode_ident}
 use Rattle.wl_scan.specs.Tokens.{rows, scanned_from}
 use Rattle.wl_scan.specs.Laws.{lexemes}
-use Rattle.wl_scan.specs.declared.token.Kind.TheVariants.{Number, Name, Pattern, Sign}
+use Rattle.wl_scan.specs.declared.token.Kind.TheVariants.{Number, Name, Sign}
 use Rattle.wl_scan.proofs.laws.tokens_of_examples.Goals as goal
 
 range : lexemes (codes "1..5") ≡ (Number, 1, 1) ∷ (Sign, 2, 2) ∷ (Number, 1, 4) ∷ []

@@ -1,6 +1,6 @@
-use Rattle.std.proofs.Common.{◌+◌, ◌≡◌, ℕ, true, subst, sym, ◌∙◌}
+use Rattle.std.proofs.Common.{◌+◌, ℕ, subst, sym, ◌∙◌}
 use Rattle.std.specs.Str.Iter.{chars_rest}
-use Rattle.wl_scan.proofs.Names.{NameSoFar, name_begins, name_goes_on, name_ends, name_is_all, name_boundary}
+use Rattle.wl_scan.proofs.Names.{NameSoFar, name_goes_on, name_ends, name_is_all, name_boundary}
 use Rattle.wl_scan.proofs.lengths.name_length.Goals as goal
 
 pub returns-then-not-fits_name-clause-length : goal.returns-then-not-fits_name-clause-length

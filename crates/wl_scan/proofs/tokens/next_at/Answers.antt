@@ -1,4 +1,4 @@
-use Rattle.std.proofs.Common.{◌≡◌, ◌+◌, ◌≤◌, ◌<◌, ◌∙◌, length, arith}
+use Rattle.std.proofs.Common.{◌∙◌, arith}
 use Rattle.wl_scan.proofs.Steps.{advances_as, part_reaches}
 use Rattle.wl_scan.proofs.Coming.{past_gap, past_token, at_fault, at_end}
 use Rattle.wl_scan.proofs.tokens.next_at.Goals as goal

@@ -1,5 +1,5 @@
 use Rattle.std.proofs.lemmas.Grind.{common_steps}
-use Rattle.std.proofs.Common.{◌≡◌, ◌≤◌, ◌+◌, ◌-◌, length, take, drop, arith, ◌∙◌}
+use Rattle.std.proofs.Common.{◌≤◌, ◌+◌, ◌-◌, length, take, drop, arith, ◌∙◌}
 use Rattle.wl_session.proofs.Pieces.{taken_on}
 use Rattle.wl_session.proofs.Answering.{fed_on, fed_cell, fed_taken, told_of, told_of_none}
 use Rattle.wl_session.proofs.streaming.feed.Goals as goal

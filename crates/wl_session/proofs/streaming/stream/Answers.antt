@@ -1,5 +1,5 @@
 use Rattle.std.proofs.lemmas.Grind.{common_steps}
-use Rattle.std.proofs.Common.{◌≤◌, ◌+◌, ◌^◌, length, take, ◌≡◌, ◌<◌, ◌-◌, arith, ◌∙◌}
+use Rattle.std.proofs.Common.{◌≤◌, length, take, ◌≡◌, ◌-◌, arith, ◌∙◌}
 use Rattle.std.proofs.lemmas.List.{length-take-le}
 use Rattle.wl_session.proofs.Streams.{streamed_on, streamed_all, streamed_first, streamed_taken}
 use Rattle.wl_session.proofs.streaming.stream.Goals as goal

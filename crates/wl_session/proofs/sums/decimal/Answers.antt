@@ -1,5 +1,4 @@
-use Rattle.std.proofs.Common.{◌≡◌, ◌≤◌, ◌-◌, arith}
-use Rattle.std.proofs.lemmas.Grind.{common_steps}
+use Rattle.std.proofs.Common.{◌≤◌, arith}
 use Rattle.wl_scan.specs.Tokens.{greatest}
 use Rattle.wl_session.proofs.Decimals.{past_greatest, past_after, no_number}
 use Rattle.wl_session.proofs.sums.decimal.Goals as goal

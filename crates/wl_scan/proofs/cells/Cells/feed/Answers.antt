@@ -1,6 +1,6 @@
-use Rattle.std.proofs.Common.{◌≡◌, ◌+◌, ◌<◌, ◌++◌, ◌∙◌, [], ◌∷◌, List, length, take, drop, get_or, ◌-◌, arith, ap, sym}
+use Rattle.std.proofs.Common.{◌+◌, ◌<◌, ◌∙◌, [], ◌∷◌, length, take, drop, get_or, ◌-◌, arith, ap, sym}
 use Rattle.std.proofs.lemmas.List.{length-drop, take_rest}
-use Rattle.wl_scan.specs.Cells.{Cutting, PlacedCell, shown}
+use Rattle.wl_scan.specs.Cells.{Cutting, shown}
 use Rattle.wl_scan.proofs.Pieces.{fed_all, fed_to_end, end_is_line_feed, some_bytes}
 use Rattle.wl_scan.proofs.cells.Cells.feed.Goals as goal
 
