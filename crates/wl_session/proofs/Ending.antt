@@ -131,3 +131,19 @@ pub strayed : (asked : Option (Option (List ℕ))) (name served : Option (List �
     → IfSome asked (λ n. n ≢ served → (hits' ≡ hits) × HasRisen status strays strays')
 strayed asked name served status hits hits' strays strays' read counts = subst (λ (w : Option (Option (List ℕ))). IfSome w (λ n. n ≢ served → (hits' ≡ hits) × HasRisen status strays strays')) read
     (λ other. let (stay, rise) = counts other in (stay, record { rose = λ _. rise; or_stayed = inl rise }))
+
+complete_of_bytes : (r : Result (Unit {0}) Stop) (refused : Bool) (bytes : List ℕ) (b h i : Option (List ℕ)) (s s' : Standing) (m n x x' y y' status : ℕ) → status ≡ status_of r refused → Answers r (Some bytes) b s s' h i m n → IsBlamed r x x' y y'
+    → length bytes ≤ input_limit → ¬ Rose x x' → ¬ Rose y y' → (status ≤ 1) ⊎ (status ≡ 5)
+complete_of_bytes (Ok done) true bytes b h i s s' m n x x' y y' status is answers blamed few no_read_fault no_write_fault = inl (omega arith)
+complete_of_bytes (Ok done) false bytes b h i s s' m n x x' y y' status is answers blamed few no_read_fault no_write_fault = inl (omega arith)
+complete_of_bytes (Err ReadFault) refused bytes b h i s s' m n x x' y y' status is answers blamed few no_read_fault no_write_fault = absurd (no_read_fault blamed.0)
+complete_of_bytes (Err WriteFault) refused bytes b h i s s' m n x x' y y' status is answers blamed few no_read_fault no_write_fault = absurd (no_write_fault blamed.1)
+complete_of_bytes (Err OutOfMemory) refused bytes b h i s s' m n x x' y y' status is answers blamed few no_read_fault no_write_fault = inr is
+complete_of_bytes (Err TooLong) refused bytes b h i s s' m n x x' y y' status is answers blamed few no_read_fault no_write_fault =
+    absurd (omega (arith, (taken_front bytes answers.bytes b input_limit answers.taken (omega (arith, answers.many))).0, few))
+
+-- a source of no more bytes than are read, and no fault
+pub complete_played : (r : Result (Unit {0}) Stop) (refused : Bool) (a b h i : Option (List ℕ)) (s s' : Standing) (m n x x' y y' status : ℕ) → status ≡ status_of r refused → Answers r a b s s' h i m n → IsBlamed r x x' y y'
+    → IfSome a (λ bytes. length bytes ≤ input_limit → ¬ Rose x x' → ¬ Rose y y' → (status ≤ 1) ⊎ (status ≡ 5))
+complete_played r refused None b h i s s' m n x x' y y' status is answers blamed = tt
+complete_played r refused (Some bytes) b h i s s' m n x x' y y' status is answers blamed = complete_of_bytes r refused bytes b h i s s' m n x x' y y' status is answers blamed

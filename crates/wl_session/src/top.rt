@@ -121,6 +121,10 @@ pub fn run<S: Source, K: Sink, E: Sink, L: Ledger>(
         → IsReadToEnd (S.left source.old) (S.left source.new) → IsFaultless (S.faults source.old) (S.faults source.new)
         → IsFaultless (K.faults out.old) (K.faults out.new) → (result.status ≤ 1) ⊎ (result.status ≡ 5) }
 
+    ensures complete { IsSome (asked (words_of words.now)) → IfSome (S.left source.old) (λ bytes. length bytes ≤ input_limit
+        → ¬ Rose (S.faults source.old) (S.faults source.new) → ¬ Rose (K.faults out.old) (K.faults out.new)
+        → (result.status ≤ 1) ⊎ (result.status ≡ 5)) }
+
     // Which source is opened.
     ensures hit { IsSome (S.left source.old) → asked (words_of words.now) ≡ Some (S.served source.old)
         → HasRisen result.status (S.hits source.old) (S.hits source.new) × (S.strays source.new ≡ S.strays source.old) }

@@ -1,4 +1,4 @@
-use Rattle.wl_session.proofs.Ending.{played_tells, played_too_long, too_long_played, read_to_end_played, strayed}
+use Rattle.wl_session.proofs.Ending.{played_tells, played_too_long, too_long_played, read_to_end_played, complete_played, strayed}
 use Rattle.wl_session.proofs.top.run.Goals as goal
 
 pub returns-clause-transcript : goal.returns-clause-transcript
@@ -17,3 +17,6 @@ returns-clause-read_to_end_when g c = λ read. read_to_end_played c.play-played.
 
 pub returns-clause-stray : goal.returns-clause-stray
 returns-clause-stray g c = λ tells. strayed _ _ _ _ _ _ _ _ c.in-Some.ensures (c.play-played.ensures.stray tells)
+
+pub returns-clause-complete : goal.returns-clause-complete
+returns-clause-complete g c = λ read. complete_played c.play-played.result _ _ _ _ _ _ _ _ _ _ _ _ _ _ c.status_of-status.ensures c.play-played.ensures.answers c.play-played.ensures.blamed
