@@ -267,9 +267,9 @@ taken-taken_in c b =
 taken-renewed : (c : Cutting) → (renewed c).taken ≡ c.taken
 taken-renewed c = cond_both c.told (between c.taken) c (λ (d : Cutting). d.taken ≡ c.taken) (λ _. refl) (λ _. refl)
 
-pub taken-cut : (c : Cutting) (bs : List ℕ) → (cut c bs).taken ≡ c.taken + length bs
-taken-cut c [] = omega arith
-taken-cut c (b ∷ bs) = omega (arith, taken-cut (taken_in (renewed c) b) bs, taken-taken_in (renewed c) b, taken-renewed c)
+pub taken_cut : (c : Cutting) (bs : List ℕ) → (cut c bs).taken ≡ c.taken + length bs
+taken_cut c [] = omega arith
+taken_cut c (b ∷ bs) = omega (arith, taken_cut (taken_in (renewed c) b) bs, taken-taken_in (renewed c) b, taken-renewed c)
 
 -- a cell that was told of is done with at the next byte
 
@@ -277,9 +277,9 @@ renewed-renewed : (c : Cutting) → renewed (renewed c) ≡ renewed c
 renewed-renewed c =
     cond_both c.told (between c.taken) c (λ (d : Cutting). renewed d ≡ d) (λ _. refl) (λ none. cond-false c.told (between c.taken) c none)
 
-pub cut-renewed : (c : Cutting) (bs : List ℕ) → 0 < length bs → (cut (renewed c) bs ≡ cut c bs) × (ended (renewed c) bs ≡ ended c bs)
-cut-renewed c [] some = absurd (omega (arith, some))
-cut-renewed c (b ∷ bs) some =
+pub cut_renewed : (c : Cutting) (bs : List ℕ) → 0 < length bs → (cut (renewed c) bs ≡ cut c bs) × (ended (renewed c) bs ≡ ended c bs)
+cut_renewed c [] some = absurd (omega (arith, some))
+cut_renewed c (b ∷ bs) some =
     let same = renewed-renewed c in
     (ap (λ (d : Cutting). cut (taken_in d b) bs) same, ap (λ (d : Cutting). told_cell (taken_in d b) ++ ended (taken_in d b) bs) same)
 
@@ -322,7 +322,7 @@ pub fed_all : (c r d e : Cutting) (bs : List ℕ) (m n : ℕ) → r ≡ renewed 
     → (e ≡ cut c (take (m + n) bs)) × (ended c (take (m + n) bs) ≡ [])
 fed_all c r d e bs m n renewal first none_first within second none_second some any =
     let run = fed r d e bs m n first none_first within second none_second in
-    let begun = cut-renewed c (take (m + n) bs) (omega (arith, length-take (m + n) bs)) in (
+    let begun = cut_renewed c (take (m + n) bs) (omega (arith, length-take (m + n) bs)) in (
       run.0 ∙ ap (λ (x : Cutting). cut x (take (m + n) bs)) renewal ∙ begun.0,
       sym (ap (λ (x : Cutting). ended x (take (m + n) bs)) renewal ∙ begun.1) ∙ run.1,
     )
@@ -339,7 +339,7 @@ fed_to_end c r d e bs m n renewal first none_first within second none_second sho
     let there : is_end e.place (get_or bs (m + n) 0) ≡ true =
     ap (is_end e.place) (sym byte) ∙ ends (omega (arith, ap length rest, length-drop m bs)) in
     let all = fed_end r e bs (m + n) run.0 run.1 short untold there in
-    let begun = cut-renewed c (take (m + n + 1) bs) (omega (arith, length-take (m + n + 1) bs)) in (
+    let begun = cut_renewed c (take (m + n + 1) bs) (omega (arith, length-take (m + n + 1) bs)) in (
       all.0 ∙ ap (λ (x : Cutting). cut x (take (m + n + 1) bs)) renewal ∙ begun.0,
       sym (ap (λ (x : Cutting). ended x (take (m + n + 1) bs)) renewal ∙ begun.1) ∙ all.1,
     )
