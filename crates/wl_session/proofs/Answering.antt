@@ -8,7 +8,7 @@ use Rattle.wl_session.specs.Reading.{Reading, Reads, AllRead}
 use Rattle.wl_session.specs.Transcript.{texts}
 use Rattle.wl_scan.specs.Cells.{Cutting, CellText, PlacedCell, cut, ended}
 use Rattle.wl_session.specs.Streaming.{HasAnswered, HasFed}
-use Rattle.wl_scan.proofs.Pieces.{cut_append, ended_append, taken-cut}
+use Rattle.wl_scan.proofs.Pieces.{cut_append, ended_append, taken_cut}
 
 pub standing_append : (s : Standing) (rs qs : List Reading) → standing_after s (rs ++ qs) ≡ standing_after (standing_after s rs) qs
 standing_append s [] qs = refl
@@ -97,4 +97,4 @@ fed_append c d e s t u h i j m n o xs ys so_far more = record {
 
 -- how many bytes were taken
 pub fed_taken : (c d : Cutting) (s t : Standing) (h i : Option (List ℕ)) (m n : ℕ) (xs : List ℕ) → HasFed c d s t h i m n xs → d.taken ≡ c.taken + length xs
-fed_taken c d s t h i m n xs so_far = ap (λ (x : Cutting). x.taken) so_far.cutting ∙ taken-cut c xs
+fed_taken c d s t h i m n xs so_far = ap (λ (x : Cutting). x.taken) so_far.cutting ∙ taken_cut c xs

@@ -4,7 +4,7 @@ use Rattle.std.specs.Io.KnownBytes.{Consumes, Keeps, IsAtEnd}
 use Rattle.std.proofs.KnownBytes.{Consumes-trans, Consumes-kept}
 use Rattle.std.proofs.lemmas.List.{length-take-le, take-append-le, take-append-drop}
 use Rattle.std.proofs.Math.Seq.{take-append-add}
-use Rattle.wl_scan.proofs.Pieces.{taken-cut}
+use Rattle.wl_scan.proofs.Pieces.{taken_cut}
 use Rattle.wl_session.specs.Answers.{Standing}
 use Rattle.wl_scan.specs.Cells.{Cutting, ended, remainder, start}
 use Rattle.wl_session.specs.Streaming.{HasAnswered, HasFed, AnswersAll, AnswersSome, AnswersFirst}
@@ -71,4 +71,4 @@ streamed_first a b b' c d s t u h i j m n o room count piece so_far more all wit
 
 -- how many bytes were taken, by how many more may be
 pub streamed_taken : (a b : Option (List ℕ)) (c : Cutting) (s t : Standing) (h i : Option (List ℕ)) (m n room : ℕ) → HasStreamed a b c s t h i m n room → c.taken + room ≡ input_limit + 1
-streamed_taken a b c s t h i m n room so_far = omega (arith, so_far.budget, ap (λ (x : Cutting). x.taken) so_far.fed.cutting, taken-cut start so_far.bytes)
+streamed_taken a b c s t h i m n room so_far = omega (arith, so_far.budget, ap (λ (x : Cutting). x.taken) so_far.fed.cutting, taken_cut start so_far.bytes)

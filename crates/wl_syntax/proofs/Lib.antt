@@ -1,0 +1,15 @@
+pub mod Reading
+pub mod Sound
+pub mod Endings
+pub mod Shapes
+pub mod Viable
+pub mod Flat
+pub mod Steps
+pub mod Levels
+pub mod Parsing
+pub mod Building
+pub mod Pieces
+pub mod Groups
+pub mod Scans
+pub mod Outcomes
+pub mod Unique

@@ -1,0 +1,8 @@
+use Rattle.wl_syntax.proofs.Groups.{join_limit, join_groups}
+use Rattle.wl_syntax.proofs.build.join.Goals as goal
+
+pub returns-in_default : goal.returns-in_default
+returns-in_default c = join_limit _ _ _ _ c.joining-link.ensures c.in_default.ensures
+
+pub returns : goal.returns
+returns c = join_groups _ _ _ _ _ c.joining-link.ensures c.linked-form.ensures c.in-Some.ensures.0 c.in-Some.ensures.1 c.joined_pairs-pairs.ensures

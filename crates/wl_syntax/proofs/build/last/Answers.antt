@@ -1,0 +1,8 @@
+use Rattle.wl_syntax.proofs.Groups.{last_wraps, last_one}
+use Rattle.wl_syntax.proofs.build.last.Goals as goal
+
+pub returns-in_default : goal.returns-in_default
+returns-in_default c = last_wraps _ c.in_default.not-Whole
+
+pub returns : goal.returns
+returns c = last_one _ _ _ _ _ c.in-Whole.is c.in_ok-one.ensures c.joining-link.ensures c.in-Some.ensures.0 c.in-Some.ensures.1

@@ -1,0 +1,10 @@
+use Rattle.std.proofs.Common.{◌∷◌, [], sym, ap, ◌∙◌}
+use Rattle.wl_expr.specs.Stamped.{unstamped}
+use Rattle.wl_syntax.proofs.Building.{items_two, colon_other}
+use Rattle.wl_syntax.proofs.lower.colon.Goals as goal
+
+pub returns-in_ok-named-in-Name : goal.returns-in_ok-named-in-Name
+returns-in_ok-named-in-Name c l r p q = rw c.in-Name.is (c.in_ok-named-in-Name.ensures (l ∷ r ∷ []) (items_two _ _ l r p q))
+
+pub returns-in_ok-named-in_default : goal.returns-in_ok-named-in_default
+returns-in_ok-named-in_default c l r p q = c.in_ok-named-in_default.ensures (l ∷ r ∷ []) (items_two _ _ l r p q) ∙ ap unstamped (sym (colon_other _ c.in_default.not-Name l r))

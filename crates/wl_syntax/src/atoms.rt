@@ -1,0 +1,164 @@
+//! What an atom stands for.
+ghost use Rattle.std.specs.Prelude.{◌≡◌};
+ghost use Rattle.wl_syntax.specs.Chain.{form};
+ghost use Rattle.wl_syntax.specs.Polish.{atom_of};
+ghost use Rattle.wl_syntax.specs.Tree.{leaf};
+
+use crate::chain::Form;
+use crate::lower::whole_number;
+use crate::terms::{named, symbol, text};
+use crate::token::Atom;
+use std::alloc::Global;
+use wl_expr::Expr;
+use wl_ports::Memory;
+
+/// What stands at the top of an atom.
+pub(crate) fn atom_form(atom: Atom<'_>) -> Form
+    ensures { result ≡ form (leaf (atom_of atom.entry)) }
+{
+    match atom {
+        Atom::Name(_) => Form::Name,
+        _ => Form::Other,
+    }
+}
+
+/// The reach of an atom: a number is reached at once.
+pub(crate) fn number_reach(atom: Atom<'_>) -> Option<u16> {
+    match atom {
+        Atom::Number(_) => Some(0),
+        _ => None,
+    }
+}
+
+/// The number that digits write, where it has 127 bits, as each has that a token writes.
+fn value_of(digits: &[u8]) -> Option<u128> {
+    let mut value: u128 = 0;
+    for digit in digits {
+        value = value
+            .checked_mul(10)?
+            .checked_add(digit.saturating_sub(b'0') as u128)?;
+    }
+    Some(value)
+}
+
+fn number(alloc: Global, digits: &str) -> Result<Expr, Memory> {
+    match value_of(digits.as_bytes()) {
+        Some(value) => {
+            if value > i128::MAX as u128 {
+                return Err(Memory);
+            }
+            Ok(whole_number(alloc, value as i128)?)
+        }
+        None => Err(Memory),
+    }
+}
+
+fn index(alloc: Global, digits: &str) -> Result<Expr, Memory> {
+    if digits.is_empty() {
+        return Ok(whole_number(alloc, 1)?);
+    }
+    Ok(number(alloc, digits)?)
+}
+
+fn slot(alloc: Global, token: &str) -> Result<Expr, Memory> {
+    if let Some(digits) = token.strip_prefix("##") {
+        let place = index(alloc, digits)?;
+        return Ok(named(alloc, "SlotSequence", &[place])?);
+    }
+    let Some(digits) = token.strip_prefix('#') else {
+        return Err(Memory);
+    };
+    let place = index(alloc, digits)?;
+    Ok(named(alloc, "Slot", &[place])?)
+}
+
+fn output(alloc: Global, token: &str) -> Result<Expr, Memory> {
+    let Some(rest) = token.strip_prefix('%') else {
+        return Err(Memory);
+    };
+    if rest.is_empty() {
+        return Ok(named(alloc, "Out", &[])?);
+    }
+    if rest.starts_with('%') {
+        let back = whole_number(alloc, -(token.len() as i128))?;
+        return Ok(named(alloc, "Out", &[back])?);
+    }
+    let line = number(alloc, rest)?;
+    Ok(named(alloc, "Out", &[line])?)
+}
+
+fn blank(alloc: Global, kind: &str, head: &str) -> Result<Expr, Memory> {
+    if head.is_empty() || head == "." {
+        return Ok(named(alloc, kind, &[])?);
+    }
+    let head = symbol(alloc, head)?;
+    Ok(named(alloc, kind, &[head])?)
+}
+
+fn blanks(alloc: Global, rest: &str) -> Result<Expr, Memory> {
+    let Some(second) = rest.strip_prefix('_') else {
+        return Ok(blank(alloc, "Blank", rest)?);
+    };
+    match second.strip_prefix('_') {
+        Some(third) => Ok(blank(alloc, "BlankNullSequence", third)?),
+        None => Ok(blank(alloc, "BlankSequence", second)?),
+    }
+}
+
+fn bound(alloc: Global, name: &str, pattern: Expr) -> Result<Expr, Memory> {
+    if name.is_empty() {
+        return Ok(pattern);
+    }
+    let name = symbol(alloc, name)?;
+    Ok(named(alloc, "Pattern", &[name, pattern])?)
+}
+
+fn pattern(alloc: Global, text: &str) -> Result<Expr, Memory> {
+    let Some((name, rest)) = text.split_once('_') else {
+        return Err(Memory);
+    };
+    let blanks = blanks(alloc, rest)?;
+    let pattern = bound(alloc, name, blanks)?;
+    if rest == "." {
+        return Ok(named(alloc, "Optional", &[pattern])?);
+    }
+    Ok(pattern)
+}
+
+/// The character behind a `\`.
+fn escaped(ch: char) -> char {
+    match ch {
+        'n' => '\n',
+        't' => '\t',
+        'r' => '\r',
+        _ => ch,
+    }
+}
+
+fn string(alloc: Global, token: &str) -> Result<Expr, Memory> {
+    let mut unquoted = String::new(alloc);
+    let mut is_escaped = false;
+    for ch in token.chars() {
+        if is_escaped {
+            unquoted.push(escaped(ch))?;
+            is_escaped = false;
+        } else if ch == '\\' {
+            is_escaped = true;
+        } else if ch != '"' {
+            unquoted.push(ch)?;
+        }
+    }
+    Ok(text(alloc, unquoted.as_str())?)
+}
+
+/// The expression of an atom.
+pub(crate) fn atom_expr(alloc: Global, atom: Atom<'_>) -> Result<Expr, Memory> {
+    match atom {
+        Atom::Number(digits) => Ok(number(alloc, digits)?),
+        Atom::Name(name) => Ok(symbol(alloc, name)?),
+        Atom::Pattern(text) => Ok(pattern(alloc, text)?),
+        Atom::Slot(text) => Ok(slot(alloc, text)?),
+        Atom::Out(text) => Ok(output(alloc, text)?),
+        Atom::Text(token) => Ok(string(alloc, token)?),
+    }
+}

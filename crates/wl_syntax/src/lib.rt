@@ -1,0 +1,27 @@
+//! Trees of texts: the one right tree of a cell's tokens, or why there is none, and the expression that it stands for.
+#![tactic(auto)]
+
+mod atoms;
+mod build;
+mod cell;
+mod chain;
+mod fault;
+pub mod laws;
+mod lexer;
+mod lower;
+mod machine;
+mod operator;
+mod parser;
+mod tags;
+mod terms;
+#[cfg(test)]
+mod tests;
+mod token;
+
+pub use build::MAX_DEPTH;
+pub use cell::parse;
+pub use chain::{Form, Link, Tagged};
+pub use fault::SyntaxFault;
+pub use operator::{Infix, Postfix, Prefix, Sign};
+pub use tags::Tagging;
+pub use token::{Atom, Node, Token};
