@@ -1,0 +1,102 @@
+"""Compares wl_syntax with the oracle's parser on random cells.
+
+    python3 tools/syntax_oracle/compare.py ORACLE [COUNT [SEED]]
+
+ORACLE is the folder of syntax.py and fuzz_syntax.py, whose random token lists make the cells. A copy of the repository gets
+a program that prints each line's expression in full, or its refusal; `rt try` runs it, unproved.
+"""
+import collections
+import pathlib
+import random
+import shutil
+import subprocess
+import sys
+import tempfile
+
+sys.dont_write_bytecode = True
+HERE = pathlib.Path(__file__).resolve().parent
+ROOT = HERE.parent.parent
+
+
+def load(oracle):
+    sys.path.insert(0, str(oracle))
+    import syntax
+    names = {}
+    source = (oracle / "fuzz_syntax.py").read_text().rsplit("main()", 1)[0]
+    exec(compile(source, "fuzz_syntax.py", "exec"), names)
+    return syntax, names
+
+
+def full(tree):
+    kind = type(tree).__name__
+    if kind == "Fraction":
+        return str(tree.numerator)
+    if kind == "Sym":
+        return tree.name if hasattr(tree, "name") else tree[0]
+    if kind == "Str":
+        return '"' + (tree.text if hasattr(tree, "text") else tree[0]) + '"'
+    return full(tree.head) + "[" + ", ".join(full(a) for a in tree.args) + "]"
+
+
+def expected(syntax, text):
+    try:
+        return full(syntax.parse(text.encode(), False))
+    except syntax.SyntaxFault as fault:
+        if fault.kind in ("Unclosed", "NotUtf8", "TooDeep"):
+            return fault.kind
+        if fault.kind == "Unexpected":
+            return f"Unexpected {fault.at}"
+        return f"Scan {fault.at}"
+
+
+def cells(names, count, seed):
+    r = random.Random(seed)
+    made = []
+    while len(made) < count:
+        if r.random() < 0.5:
+            tokens = names["grown_list"](r, r.randint(3, 24))
+        else:
+            size = r.choice([1, 2, 3, 4, 5, 6, 7, 8, 9, 12])
+            tokens = names["random_list"](r, r.choice(names["POOLS"]), size)
+        text = (" " if r.random() < 0.8 else "").join(t.text for t in tokens)
+        if "\n" not in text:
+            made.append(text)
+    return made
+
+
+def answers(lines):
+    with tempfile.TemporaryDirectory() as folder:
+        copy = pathlib.Path(folder)
+        shutil.copy(ROOT / "crates.txt", copy)
+        shutil.copytree(ROOT / "crates", copy / "crates", ignore=shutil.ignore_patterns("out"))
+        with open(copy / "crates.txt", "a") as rows:
+            rows.write("drive: wl_syntax wl_expr wl_scan wl_exact\n")
+        source = copy / "crates" / "drive" / "src"
+        source.mkdir(parents=True)
+        shutil.copy(HERE / "driver.rt.txt", source / "main.rt")
+        (copy / "cells.txt").write_text("\n".join(lines) + "\n")
+        with open(copy / "cells.txt") as given:
+            run = subprocess.run(["rt", "try"], cwd=source.parent, stdin=given, capture_output=True, text=True)
+        got = run.stdout.split("\n")[: len(lines)]
+        if len(got) < len(lines):
+            sys.exit(run.stdout[-2000:] + run.stderr[-2000:])
+        return got
+
+
+def main():
+    oracle = pathlib.Path(sys.argv[1])
+    count = int(sys.argv[2]) if len(sys.argv) > 2 else 12000
+    seed = int(sys.argv[3]) if len(sys.argv) > 3 else 7
+    syntax, names = load(oracle)
+    lines = cells(names, count, seed)
+    wanted = [expected(syntax, line) for line in lines]
+    got = answers(lines)
+    kinds = collections.Counter(w.split()[0] if w.split()[0] in ("Unclosed", "Unexpected", "Scan", "TooDeep") else "tree" for w in wanted)
+    wrong = [(c, w, g) for c, w, g in zip(lines, wanted, got) if w != g]
+    for cell, want, answer in wrong[:20]:
+        print(f"{cell!r}: oracle {want!r}, wl_syntax {answer!r}")
+    print(dict(kinds), f"differences: {len(wrong)}")
+    sys.exit(1 if wrong else 0)
+
+
+main()
