@@ -13,3 +13,4 @@ pub mod Groups
 pub mod Scans
 pub mod Outcomes
 pub mod Unique
+pub mod Digits

@@ -24,8 +24,7 @@ value_of digits = value_after 0 digits
 
 -- `#` and `##` alone are the first
 abbrev pub index : List ℕ → full.Tree
-index [] = whole_number (pos 1)
-index (b ∷ bs) = whole_number (pos (value_of (b ∷ bs)))
+index s = if length s == 0 then whole_number (pos 1) else whole_number (pos (value_of s))
 
 abbrev pub slot_tree : List ℕ → full.Tree
 slot_tree s = if starts_with nat_eq s (codes "##") then named (codes "SlotSequence") (index (drop 2 s) ∷ []) else named (codes "Slot") (index (drop 1 s) ∷ [])
@@ -53,8 +52,7 @@ blanks s =
 
 -- a name before them makes a pattern
 abbrev pub bound : List ℕ → full.Tree → full.Tree
-bound [] p = p
-bound (b ∷ bs) p = named (codes "Pattern") (full.symbol (b ∷ bs) ∷ p ∷ [])
+bound s p = if length s == 0 then p else named (codes "Pattern") (full.symbol s ∷ p ∷ [])
 
 -- and a `.` behind them a default
 abbrev pub defaulted : List ℕ → full.Tree → full.Tree

@@ -1,6 +1,10 @@
 //! What an atom stands for.
-ghost use Rattle.std.specs.Prelude.{◌≡◌};
+ghost use Rattle.std.specs.Prelude.{◌≡◌, IfOk, IfSome, pos};
+ghost use Rattle.wl_expr.specs.Stamped.{unstamped};
+ghost use Rattle.wl_expr.specs.Tree as full;
+ghost use Rattle.wl_syntax.specs.Atoms as atoms;
 ghost use Rattle.wl_syntax.specs.Chain.{form};
+ghost use Rattle.wl_syntax.specs.Lower.{reach};
 ghost use Rattle.wl_syntax.specs.Polish.{atom_of};
 ghost use Rattle.wl_syntax.specs.Tree.{leaf};
 
@@ -23,7 +27,9 @@ pub(crate) fn atom_form(atom: Atom<'_>) -> Form
 }
 
 /// The reach of an atom: a number is reached at once.
-pub(crate) fn number_reach(atom: Atom<'_>) -> Option<u16> {
+pub(crate) fn number_reach(atom: Atom<'_>) -> Option<u16>
+    ensures { result ≡ reach (leaf (atom_of atom.entry)) }
+{
     match atom {
         Atom::Number(_) => Some(0),
         _ => None,
@@ -31,7 +37,9 @@ pub(crate) fn number_reach(atom: Atom<'_>) -> Option<u16> {
 }
 
 /// The number that digits write, where it has 127 bits, as each has that a token writes.
-fn value_of(digits: &[u8]) -> Option<u128> {
+fn value_of(digits: &[u8]) -> Option<u128>
+    ensures { IfSome result (λ v. v ≡ atoms.value_of digits.now) }
+{
     let mut value: u128 = 0;
     for digit in digits {
         value = value
@@ -41,7 +49,9 @@ fn value_of(digits: &[u8]) -> Option<u128> {
     Some(value)
 }
 
-fn number(alloc: Global, digits: &str) -> Result<Expr, Memory> {
+fn number(alloc: Global, digits: &str) -> Result<Expr, Memory>
+    ensures { IfOk result (λ e. e ≡ unstamped (atoms.whole_number (pos (atoms.value_of digits.now)))) }
+{
     match value_of(digits.as_bytes()) {
         Some(value) => {
             if value > i128::MAX as u128 {
@@ -53,7 +63,9 @@ fn number(alloc: Global, digits: &str) -> Result<Expr, Memory> {
     }
 }
 
-fn index(alloc: Global, digits: &str) -> Result<Expr, Memory> {
+fn index(alloc: Global, digits: &str) -> Result<Expr, Memory>
+    ensures { IfOk result (λ e. e ≡ unstamped (atoms.index digits.now)) }
+{
     if digits.is_empty() {
         return Ok(whole_number(alloc, 1)?);
     }
@@ -87,8 +99,13 @@ fn output(alloc: Global, token: &str) -> Result<Expr, Memory> {
     Ok(named(alloc, "Out", &[line])?)
 }
 
-fn blank(alloc: Global, kind: &str, head: &str) -> Result<Expr, Memory> {
-    if head.is_empty() || head == "." {
+fn blank(alloc: Global, kind: &str, head: &str) -> Result<Expr, Memory>
+    ensures { IfOk result (λ e. e ≡ unstamped (atoms.blank kind.now head.now)) }
+{
+    if head.is_empty() {
+        return Ok(named(alloc, kind, &[])?);
+    }
+    if head == "." {
         return Ok(named(alloc, kind, &[])?);
     }
     let head = symbol(alloc, head)?;
@@ -105,7 +122,9 @@ fn blanks(alloc: Global, rest: &str) -> Result<Expr, Memory> {
     }
 }
 
-fn bound(alloc: Global, name: &str, pattern: Expr) -> Result<Expr, Memory> {
+fn bound(alloc: Global, name: &str, pattern: Expr) -> Result<Expr, Memory>
+    ensures { IfOk result (λ e. (p : full.Tree) → pattern ≡ unstamped p → e ≡ unstamped (atoms.bound name.now p)) }
+{
     if name.is_empty() {
         return Ok(pattern);
     }
@@ -126,7 +145,9 @@ fn pattern(alloc: Global, text: &str) -> Result<Expr, Memory> {
 }
 
 /// The character behind a `\`.
-fn escaped(ch: char) -> char {
+fn escaped(ch: char) -> char
+    ensures { result ≡ atoms.escaped ch }
+{
     match ch {
         'n' => '\n',
         't' => '\t',

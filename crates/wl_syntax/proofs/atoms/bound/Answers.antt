@@ -1,0 +1,7 @@
+use Rattle.std.proofs.Common.{[], ◌∷◌}
+use Rattle.wl_expr.specs.Tree as full
+use Rattle.wl_syntax.proofs.Building.{items_two}
+use Rattle.wl_syntax.proofs.atoms.bound.Goals as goal
+
+pub returns : goal.returns
+returns c p h = rw (← c.is_empty.ensures, c.if-is_empty.false) (c.in_ok-named.ensures (full.symbol c.args.name.now ∷ p ∷ []) (items_two _ _ (full.symbol c.args.name.now) p c.in_ok-name.ensures h))
