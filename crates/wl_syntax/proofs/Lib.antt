@@ -14,3 +14,5 @@ pub mod Scans
 pub mod Outcomes
 pub mod Unique
 pub mod Digits
+pub mod Marks
+pub mod Strings

@@ -72,31 +72,43 @@ fn index(alloc: Global, digits: &str) -> Result<Expr, Memory>
     Ok(number(alloc, digits)?)
 }
 
-fn slot(alloc: Global, token: &str) -> Result<Expr, Memory> {
-    if let Some(digits) = token.strip_prefix("##") {
-        let place = index(alloc, digits)?;
-        return Ok(named(alloc, "SlotSequence", &[place])?);
-    }
-    let Some(digits) = token.strip_prefix('#') else {
+fn slot(alloc: Global, token: &str) -> Result<Expr, Memory>
+    ensures { IfOk result (λ e. e ≡ unstamped (atoms.slot_tree token.now)) }
+{
+    let Some(rest) = token.strip_prefix('#') else {
         return Err(Memory);
     };
-    let place = index(alloc, digits)?;
-    Ok(named(alloc, "Slot", &[place])?)
+    match rest.strip_prefix('#') {
+        Some(digits) => {
+            let place = index(alloc, digits)?;
+            Ok(named(alloc, "SlotSequence", &[place])?)
+        }
+        None => {
+            let place = index(alloc, rest)?;
+            Ok(named(alloc, "Slot", &[place])?)
+        }
+    }
 }
 
-fn output(alloc: Global, token: &str) -> Result<Expr, Memory> {
+fn output(alloc: Global, token: &str) -> Result<Expr, Memory>
+    ensures { IfOk result (λ e. e ≡ unstamped (atoms.output_tree token.now)) }
+{
     let Some(rest) = token.strip_prefix('%') else {
         return Err(Memory);
     };
     if rest.is_empty() {
         return Ok(named(alloc, "Out", &[])?);
     }
-    if rest.starts_with('%') {
-        let back = whole_number(alloc, -(token.len() as i128))?;
-        return Ok(named(alloc, "Out", &[back])?);
+    match rest.strip_prefix('%') {
+        Some(_) => {
+            let back = whole_number(alloc, -(token.len() as i128))?;
+            Ok(named(alloc, "Out", &[back])?)
+        }
+        None => {
+            let line = number(alloc, rest)?;
+            Ok(named(alloc, "Out", &[line])?)
+        }
     }
-    let line = number(alloc, rest)?;
-    Ok(named(alloc, "Out", &[line])?)
 }
 
 fn blank(alloc: Global, kind: &str, head: &str) -> Result<Expr, Memory>
@@ -112,13 +124,15 @@ fn blank(alloc: Global, kind: &str, head: &str) -> Result<Expr, Memory>
     Ok(named(alloc, kind, &[head])?)
 }
 
-fn blanks(alloc: Global, rest: &str) -> Result<Expr, Memory> {
-    let Some(second) = rest.strip_prefix('_') else {
-        return Ok(blank(alloc, "Blank", rest)?);
-    };
-    match second.strip_prefix('_') {
-        Some(third) => Ok(blank(alloc, "BlankNullSequence", third)?),
-        None => Ok(blank(alloc, "BlankSequence", second)?),
+fn blanks(alloc: Global, rest: &str) -> Result<Expr, Memory>
+    ensures { IfOk result (λ e. e ≡ unstamped (atoms.blanks rest.now)) }
+{
+    match rest.strip_prefix('_') {
+        Some(second) => match second.strip_prefix('_') {
+            Some(third) => Ok(blank(alloc, "BlankNullSequence", third)?),
+            None => Ok(blank(alloc, "BlankSequence", second)?),
+        },
+        None => Ok(blank(alloc, "Blank", rest)?),
     }
 }
 
@@ -132,7 +146,9 @@ fn bound(alloc: Global, name: &str, pattern: Expr) -> Result<Expr, Memory>
     Ok(named(alloc, "Pattern", &[name, pattern])?)
 }
 
-fn pattern(alloc: Global, text: &str) -> Result<Expr, Memory> {
+fn pattern(alloc: Global, text: &str) -> Result<Expr, Memory>
+    ensures { IfOk result (λ e. e ≡ unstamped (atoms.pattern_tree text.now)) }
+{
     let Some((name, rest)) = text.split_once('_') else {
         return Err(Memory);
     };
@@ -156,7 +172,9 @@ fn escaped(ch: char) -> char
     }
 }
 
-fn string(alloc: Global, token: &str) -> Result<Expr, Memory> {
+fn string(alloc: Global, token: &str) -> Result<Expr, Memory>
+    ensures { IfOk result (λ e. e ≡ unstamped (full.text (atoms.string_of token.now))) }
+{
     let mut unquoted = String::new(alloc);
     let mut is_escaped = false;
     for ch in token.chars() {
@@ -173,7 +191,9 @@ fn string(alloc: Global, token: &str) -> Result<Expr, Memory> {
 }
 
 /// The expression of an atom.
-pub(crate) fn atom_expr(alloc: Global, atom: Atom<'_>) -> Result<Expr, Memory> {
+pub(crate) fn atom_expr(alloc: Global, atom: Atom<'_>) -> Result<Expr, Memory>
+    ensures { IfOk result (λ e. e ≡ unstamped (atoms.atom_tree (atom_of atom.entry))) }
+{
     match atom {
         Atom::Number(digits) => Ok(number(alloc, digits)?),
         Atom::Name(name) => Ok(symbol(alloc, name)?),
