@@ -9,7 +9,9 @@ pub mod Levels
 pub mod Parsing
 pub mod Building
 pub mod Pieces
+pub mod Depths
 pub mod Groups
+pub mod Expressions
 pub mod Scans
 pub mod Outcomes
 pub mod Unique

@@ -1,11 +1,10 @@
 -- What the signs that an atom begins with say of it.
-use Rattle.std.proofs.Common.{ℕ, suc, ◌≡◌, ◌≢◌, Bool, true, false, nat_eq, List, [], ◌∷◌, Option, Some, None, Bor, length, get_or, drop, refl, sym, ap, ◌∙◌, subst, arith}
-use Rattle.std.specs.Prelude.{pos, neg_ℤ, codes, MatchOption}
+use Rattle.std.proofs.Common.{ℕ, suc, ◌≡◌, ◌≢◌, true, false, nat_eq, List, [], ◌∷◌, length, refl, sym, ap, ◌∙◌, subst, arith}
+use Rattle.std.specs.Prelude.{pos, neg_ℤ, codes}
 use Rattle.std.specs.List.{starts_with, before_first, after_first}
 use Rattle.std.specs.Str.{bytes_eq}
 use Rattle.std.proofs.lemmas.Bool.{ne_eqb}
-use Rattle.wl_expr.specs.Tree as full
-use Rattle.wl_syntax.specs.Atoms.{named, whole_number, value_of, index, slot_tree, output_tree, blank, blanks, bound, defaulted, pattern_tree, is_mark}
+use Rattle.wl_syntax.specs.Atoms.{named, whole_number, value_of, index, slot_tree, output_tree, blank, blanks, bound, pattern_tree, is_mark}
 
 -- the text doesn't begin with the sign
 abbrev pub Lacks : ℕ → List ℕ → Type 0

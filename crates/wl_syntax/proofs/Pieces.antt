@@ -14,7 +14,11 @@ use Rattle.wl_syntax.specs.Depth.{depth, max_depth}
 use Rattle.wl_syntax.specs.declared.token.Node.{Node as CodeNode}
 use Rattle.wl_syntax.specs.Polish.{node_of, Node, leaf_node, list_node, paren_node, element_node, call_node, part_node, before_node, after_node, last_node, between_node, polish, polish_elems}
 use Rattle.wl_syntax.specs.Tree.{Tree, leaf, paren, brace, call, part, before, after, last, between, Elems, none, more}
-use Rattle.wl_syntax.specs.Built.{Piece, tree, calling, listing, Pieces, pieces, lost, build, Is, AreFrom, Are}
+use Rattle.wl_expr.specs.Stamped.{Stamped, unstamped}
+use Rattle.wl_expr.specs.Tree as full
+use Rattle.wl_syntax.specs.Lower.{whole, lower}
+use Rattle.wl_syntax.specs.Built.{Piece, tree, calling, listing, Pieces, pieces, lost, build, IsGroup, Is, AreFrom, Are, unstamped_all}
+use Rattle.wl_syntax.proofs.Expressions.{group_expr}
 use Rattle.wl_syntax.specs.Lowered.{Wraps, Joins, AddsElement, EndsCall, EndsPart, Takes}
 
 -- the pieces behind some nodes
@@ -202,8 +206,8 @@ built_tree ns i is js k a g l w t e =
     (w (tree t) [] (subst (Are is) (ap (built (pieces [])) b ∙ built-polish t []) a)).0
 
 -- what the last item says of the tree
-pub whole_shallow : (k : Item) (g : Group) (t : Tree) → k ≡ code.Whole g → Is k (tree t) → depth t ≤ max_depth
-whole_shallow k g t e h = (subst (λ j. Is j (tree t)) e h).shallow
+pub whole_lowers : (k : Item) (g : Group) (t : Tree) (ws : List Stamped) (e : Stamped) → k ≡ code.Whole g → Is k (tree t) → ws ≡ g.items.items → ((es : List full.Tree) → ws ≡ unstamped_all es → e ≡ unstamped (whole g.form es)) → (depth t ≤ max_depth) × (e ≡ unstamped (lower t))
+whole_lowers k g t ws e i h d f = let w : IsGroup g t = subst (λ j. Is j (tree t)) i h in (w.shallow, group_expr g t ws e w d f)
 
 pub deep_deep : (k : Item) (t : Tree) → k ≡ code.Deep → Is k (tree t) → max_depth < depth t
 deep_deep k t e h = subst (λ j. Is j (tree t)) e h

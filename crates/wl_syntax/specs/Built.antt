@@ -1,5 +1,5 @@
 -- What the builder's stack stands for: trees, and calls and lists whose elements are still to come.
-use Rattle.std.specs.Prelude.{ℕ, ◌≡◌, ◌≤◌, ◌<◌, max, min, Option, Some, None, ◌+◌, ◌++◌, List, [], ◌∷◌, map}
+use Rattle.std.specs.Prelude.{ℕ, ◌≡◌, ◌≤◌, ◌<◌, max, min, Option, Some, None, ◌+◌, ◌++◌, List, [], ◌∷◌, map, codes}
 use Rattle.wl_expr.specs.Stamped.{Stamped, unstamped}
 use Rattle.wl_expr.specs.Tree as full
 use Rattle.wl_syntax.specs.declared.operator.Infix.{Infix}
@@ -9,7 +9,7 @@ use Rattle.wl_syntax.specs.declared.build.Item.{Item}
 use Rattle.wl_syntax.specs.declared.build.Item.TheVariants as code
 use Rattle.wl_syntax.specs.Chain.{form}
 use Rattle.wl_syntax.specs.Depth.{depth, depths, pairs, max_depth}
-use Rattle.wl_syntax.specs.Lower.{nested_on}
+use Rattle.wl_syntax.specs.Lower.{reach, items, elements, lower, nested_on}
 use Rattle.wl_syntax.specs.Polish.{Node, leaf_node, list_node, paren_node, element_node, call_node, part_node, before_node, after_node, last_node, between_node}
 use Rattle.wl_syntax.specs.Tree.{Tree, leaf, paren, brace, call, part, before, after, last, between, Elems, none, more}
 
@@ -62,21 +62,25 @@ IsNear (Some n) = n ≤ max_depth
 -- a tree that isn't too deep
 pub record IsGroup (g : Group) (t : Tree) : Type 0 where
   pub has_form : g.form ≡ form t
+  pub has_reach : g.reach ≡ reach t
+  pub has_items : g.items.items ≡ unstamped_all (items t)
   pub has_depth : g.depth ≡ depth t
   pub has_pairs : g.pairs ≡ min (pairs t) (max_depth + 1)
   pub shallow : depth t ≤ max_depth
 
--- a call or a list of this depth so far
-pub record IsCall (a : Args) (n : ℕ) : Type 0 where
+-- a call or a list of this head, these elements and this depth so far
+pub record IsCall (a : Args) (h : full.Tree) (es : List full.Tree) (n : ℕ) : Type 0 where
+  pub has_head : a.head ≡ unstamped h
+  pub has_elements : a.elements.items ≡ unstamped_all es
   pub has_depth : a.depth ≡ n
   pub shallow : n ≤ max_depth
 
 abbrev pub Is : Item → Piece → Type 0
 Is (code.Whole g) (tree t) = IsGroup g t
 Is code.Deep (tree t) = max_depth < depth t
-Is (code.Args a) (calling f xs) = IsCall a (max (depth f) (depths xs))
+Is (code.Args a) (calling f xs) = IsCall a (lower f) (elements xs) (max (depth f) (depths xs))
 Is code.Deep (calling f xs) = max_depth < max (depth f) (depths xs)
-Is (code.Args a) (listing xs) = IsCall a (depths xs)
+Is (code.Args a) (listing xs) = IsCall a (full.symbol (codes "List")) (elements xs) (depths xs)
 Is code.Deep (listing xs) = max_depth < depths xs
 Is _ _ = ⊥
 

@@ -1,6 +1,6 @@
 -- What each step of the builder makes of the pieces that its items stand for.
-use Rattle.std.specs.Prelude.{ℕ, Bool, ◌+◌, min, max, if◌then◌else◌, ◌≡◌, ◌≤◌, ◌<◌, List, ◌∷◌, Result, Ok, Err}
-use Rattle.wl_expr.specs.Stamped.{Stamped}
+use Rattle.std.specs.Prelude.{ℕ, Bool, ◌+◌, min, max, if◌then◌else◌, ◌≡◌, ◌≤◌, ◌<◌, List, [], ◌∷◌, None, Result, Ok, Err}
+use Rattle.wl_expr.specs.Stamped.{Stamped, unstamped}
 use Rattle.wl_syntax.specs.declared.operator.Infix.{Infix}
 use Rattle.wl_syntax.specs.declared.build.Group.{Group}
 use Rattle.wl_syntax.specs.declared.build.Args.{Args}
@@ -11,12 +11,20 @@ use Rattle.wl_syntax.specs.declared.build.BuildFault.TheVariants.{Memory, TooDee
 use Rattle.wl_syntax.specs.declared.chain.Form.{Form}
 use Rattle.wl_syntax.specs.Built.{Piece, tree, calling, listing, IsGroup, Is, AreFrom}
 use Rattle.wl_syntax.specs.Depth.{depth, max_depth}
+use Rattle.wl_syntax.specs.Lower.{lower}
 use Rattle.wl_syntax.specs.Tree.{Tree, brace, call, part, between, Elems, none, more}
 
--- an item of one expression
-abbrev pub IsOne : Item → Form → ℕ → Type 0
-IsOne (code.Whole g) f n = (g.form ≡ f) × (g.depth ≡ n) × (g.pairs ≡ n)
-IsOne _ f n = ⊥
+-- a group of one expression, which no number is reached from
+pub record IsAlone (g : Group) (f : Form) (e : Stamped) (n : ℕ) : Type 0 where
+  pub has_form : g.form ≡ f
+  pub has_reach : g.reach ≡ None
+  pub has_items : g.items.items ≡ e ∷ []
+  pub has_depth : g.depth ≡ n
+  pub has_pairs : g.pairs ≡ n
+
+abbrev pub IsOne : Item → Form → Stamped → ℕ → Type 0
+IsOne (code.Whole g) f e n = IsAlone g f e n
+IsOne _ f e n = ⊥
 
 -- a tree becomes another
 abbrev pub Wraps : Item → Item → (Tree → Tree) → Type 0
@@ -49,9 +57,9 @@ EndsPart i j = (f : Tree) (xs : Elems) (t : Tree) → Is i (calling f (more xs t
 abbrev pub Takes : List Item → List Item → Item → Type 0
 Takes is js i = (p : Piece) (ps : List Piece) → AreFrom is (p ∷ ps) → Is i p × AreFrom js ps
 
--- whether a tree is too deep
+-- the expression of a tree that isn't too deep
 abbrev pub Lowers : Tree → Result Stamped BuildFault → Type 0
-Lowers t (Ok e) = depth t ≤ max_depth
+Lowers t (Ok e) = (depth t ≤ max_depth) × (e ≡ unstamped (lower t))
 Lowers t (Err Memory) = Unit {0}
 Lowers t (Err TooDeep) = max_depth < depth t
 

@@ -1,15 +1,16 @@
 -- What a cell reads as, by the first of these causes that holds: its bytes aren't text, a token is at fault, its tokens are no
--- right text but the beginning of one, one of them is unexpected, or their tree is too deep. Else it has a tree.
+-- right text but the beginning of one, one of them is unexpected, or their tree is too deep. Else it is the expression of its tree, without stamps.
 use Rattle.std.specs.Prelude.{ℕ, ◌≡◌, ◌≤◌, ◌<◌, List, Some, None, Result, Ok, Err, map}
 use Rattle.std.specs.Str.{IsUtf8}
 use Rattle.std.specs.List.{slice_get}
-use Rattle.wl_expr.specs.Stamped.{Stamped}
+use Rattle.wl_expr.specs.Stamped.{Stamped, unstamped}
 use Rattle.wl_scan.specs.Tokens.{Lexeme, scanned}
 use Rattle.wl_syntax.specs.declared.fault.SyntaxFault.{SyntaxFault}
 use Rattle.wl_syntax.specs.declared.fault.SyntaxFault.TheVariants.{NotUtf8, Scan, Unclosed, Unexpected, TooDeep, Memory}
 use Rattle.wl_syntax.specs.Answers.{IsTreeOf, IsUnclosed, IsUnexpected}
 use Rattle.wl_syntax.specs.Depth.{depth, max_depth}
 use Rattle.wl_syntax.specs.Lexer.{tokens}
+use Rattle.wl_syntax.specs.Lower.{lower}
 use Rattle.wl_syntax.specs.Tree.{Tree}
 
 -- the bytes are a text without a fault of a token
@@ -34,7 +35,7 @@ Refused bytes TooDeep = (t : Tree) × HasTree bytes t × (max_depth < depth t)
 Refused bytes Memory = Unit {0}
 
 abbrev pub Reads : List ℕ → Result Stamped SyntaxFault → Type 0
-Reads bytes (Ok e) = (t : Tree) × HasTree bytes t × (depth t ≤ max_depth)
+Reads bytes (Ok e) = (t : Tree) × HasTree bytes t × (depth t ≤ max_depth) × (e ≡ unstamped (lower t))
 Reads bytes (Err f) = Refused bytes f
 
 -- the tokens of a text, or its fault

@@ -64,7 +64,7 @@ fn deeper(depth: u16) -> Option<u16>
 
 /// An expression that is no chain.
 fn one(alloc: Global, form: Form, expr: Expr, depth: u16) -> Result<Item, Memory>
-    ensures { IfOk result (λ item. IsOne item form depth) }
+    ensures { IfOk result (λ item. IsOne item form expr depth) }
 {
     let mut items = Vec::new(alloc);
     items.push(expr)?;

@@ -77,6 +77,9 @@ fn cells_and_answers(rt: HostRuntime) -> Result<(), Fail> {
         ),
         ("x -> y & /@ {1}", "Map[Function[Rule[x, y]], List[1]]"),
         ("-a*b", "Times[Times[-1, a], b]"),
+        ("-(2)", "Times[-1, 2]"),
+        ("a - (2)", "Plus[a, Times[-1, 2]]"),
+        ("a - 2 b", "Plus[a, Times[-2, b]]"),
         ("a - b/2 c", "Plus[a, Times[-1, Times[b, Power[2, -1]], c]]"),
         ("a - 2/3 b", "Plus[a, Times[Times[-2, Power[3, -1]], b]]"),
         (

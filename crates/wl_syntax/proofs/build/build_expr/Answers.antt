@@ -1,4 +1,4 @@
-use Rattle.wl_syntax.proofs.Pieces.{built_begin, built_next, built_tree, whole_shallow, deep_deep, args_deep}
+use Rattle.wl_syntax.proofs.Pieces.{built_begin, built_next, built_tree, whole_lowers, deep_deep, args_deep}
 use Rattle.wl_syntax.proofs.build.build_expr.Goals as goal
 
 pub loop-node-init : goal.loop-node-init
@@ -8,7 +8,7 @@ pub loop-node-preserved : goal.loop-node-preserved
 loop-node-preserved c = built_next _ _ _ _ _ c.loop-node.invariant c.loop-node-test.true c.in_ok-step.ensures
 
 pub returns-in-Whole : goal.returns-in-Whole
-returns-in-Whole c t e = whole_shallow _ _ t c.in-Whole.is (built_tree _ _ _ _ _ c.loop-node.invariant c.loop-node.auto.node-index-end c.loop-node-test.false c.take.ensures t e)
+returns-in-Whole c t e = whole_lowers _ c.in-Whole.group t _ _ c.in-Whole.is (built_tree _ _ _ _ _ c.loop-node.invariant c.loop-node.auto.node-index-end c.loop-node-test.false c.take.ensures t e) c.deref.ensures.value c.in_ok-whole-in-Whole.ensures
 
 pub returns-in-Args : goal.returns-in-Args
 returns-in-Args c t e = args_deep _ _ t c.in-Args.is (built_tree _ _ _ _ _ c.loop-node.invariant c.loop-node.auto.node-index-end c.loop-node-test.false c.take.ensures t e)

@@ -1,3 +1,5 @@
+use Rattle.std.proofs.Common.{refl}
+use Rattle.wl_syntax.proofs.Expressions.{joined_items}
 use Rattle.wl_syntax.proofs.Groups.{join_limit, join_groups}
 use Rattle.wl_syntax.proofs.build.join.Goals as goal
 
@@ -5,4 +7,6 @@ pub returns-in_default : goal.returns-in_default
 returns-in_default c = join_limit _ _ _ _ c.joining-link.ensures c.in_default.ensures
 
 pub returns : goal.returns
-returns c = join_groups _ _ _ _ _ c.joining-link.ensures c.linked-form.ensures c.in-Some.ensures.0 c.in-Some.ensures.1 c.joined_pairs-pairs.ensures
+returns c =
+    join_groups _ _ _ _ _ c.joining-link.ensures c.linked-form.ensures c.in-Some.ensures.0 c.in-Some.ensures.1 c.joined_pairs-pairs.ensures c.joined_reach-reach.ensures
+    (λ l r x y. joined_items c.args.operator _ c.args.left c.args.right l r _ _ _ x y c.joining-link.ensures refl c.deref.ensures.value c.in_ok-items.ensures)

@@ -1,3 +1,4 @@
+use Rattle.wl_syntax.proofs.Expressions.{last_expr}
 use Rattle.wl_syntax.proofs.Groups.{last_wraps, last_one}
 use Rattle.wl_syntax.proofs.build.last.Goals as goal
 
@@ -5,4 +6,6 @@ pub returns-in_default : goal.returns-in_default
 returns-in_default c = last_wraps _ c.in_default.not-Whole
 
 pub returns : goal.returns
-returns c = last_one _ _ _ _ _ c.in-Whole.is c.in_ok-one.ensures c.joining-link.ensures c.in-Some.ensures.0 c.in-Some.ensures.1
+returns c =
+    last_one _ _ c.in-Whole.group _ _ _ c.in-Whole.is c.in_ok-one.ensures c.joining-link.ensures c.in-Some.ensures.0 c.in-Some.ensures.1
+    (λ t v. last_expr c.in-Whole.group _ t _ v c.joining-link.ensures c.in_ok-expr.ensures)

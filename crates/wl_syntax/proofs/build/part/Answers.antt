@@ -1,0 +1,9 @@
+use Rattle.std.proofs.Common.{◌∷◌, ◌∙◌}
+use Rattle.wl_syntax.proofs.Building.{items_more}
+use Rattle.wl_syntax.proofs.Groups.{part_one}
+use Rattle.wl_syntax.proofs.build.part.Goals as goal
+
+pub returns : goal.returns
+returns c =
+    part_one _ _ c.in-Args.args _ _ c.in-Args.is c.in_ok-one.ensures c.in-Some.ensures
+    (λ h es p q. c.in_ok-expr.ensures (h ∷ es) (c.deref-2.ensures.value ∙ c.in_ok-all.ensures ∙ items_more _ _ h es p (c.deref.ensures.value ∙ q)))
