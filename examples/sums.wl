@@ -14,4 +14,13 @@
 (* This isn't understood yet, so it is refused, and the next cell is answered all the same. *)
 x + 1
 
-100 + 20 + 3
+(* Other ways to write a sum, which are read as the same: *)
+Plus[100, 20, 3]
+
+Plus @ 5
+
+(* Two numbers beside each other are a product, and this isn't finished: *)
+2 3
+
+(1 +
+ 2

@@ -4,7 +4,8 @@ use Rattle.std.specs.Fmt.{decimal, signed_decimal}
 use Rattle.wl_exact.specs.Fraction.{Fraction}
 use Rattle.wl_exact.specs.declared.num.NumFault.{NumFault}
 use Rattle.wl_expr.specs.Tree.{Tree, num, symbol, node, none}
-use Rattle.wl_session.specs.Reading.{Reading, Reads, refused, read, not_supported}
+use Rattle.wl_session.specs.Reading.{Reading, Reads, refused, read}
+use Rattle.wl_session.specs.Refusal.{not_supported}
 use Rattle.wl_scan.specs.Cells.{CellText}
 use Rattle.wl_session.specs.Totals.{summands, total}
 

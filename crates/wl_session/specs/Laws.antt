@@ -3,7 +3,8 @@ use Rattle.std.specs.Prelude.{◌≡◌, ◌++◌, ℕ, pos, List, [], ◌∷◌
 use Rattle.wl_exact.specs.Fraction.{of_int}
 use Rattle.wl_expr.specs.Tree.{Tree, num, symbol, node, more, none}
 use Rattle.wl_session.specs.Answers.{fresh, answers}
-use Rattle.wl_session.specs.Reading.{Reading, refused, read, not_supported, AllRead}
+use Rattle.wl_session.specs.Reading.{Reading, refused, read, AllRead}
+use Rattle.wl_session.specs.Refusal.{not_supported}
 use Rattle.wl_session.specs.Transcript.{cells_read, transcript}
 use Rattle.wl_session.specs.Words.{Asked}
 

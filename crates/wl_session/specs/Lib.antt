@@ -7,8 +7,6 @@ pub mod Reading
 pub mod Refusal
 pub mod Sitting
 pub mod Streaming
-pub mod SumParts
-pub mod Sums
 pub mod Totals
 pub mod Transcript
 pub mod Words

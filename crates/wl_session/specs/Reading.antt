@@ -1,50 +1,38 @@
--- How a cell is read: as a tree, or not at all.
-use Rattle.std.specs.Prelude.{◌≡◌, ⊤, ℕ, Bool, List, [], ◌∷◌, map, codes, Option, Some, None, if◌then◌else◌}
-use Rattle.std.specs.Str.{IsUtf8}
-use Rattle.wl_exact.specs.Fraction.{Fraction}
-use Rattle.wl_expr.specs.Tree.{Tree, num, symbol, node, from_list}
+-- How a cell is read: as the expression of its right tree, or not at all.
+use Rattle.std.specs.Prelude.{◌≡◌, ◌≢◌, ◌≤◌, ⊤, ℕ, List, [], ◌∷◌}
+use Rattle.wl_expr.specs.Tree.{Tree}
 use Rattle.wl_scan.specs.Cells.{CellText, whole, too_long}
-use Rattle.wl_scan.specs.Tokens.{Lexeme, scanned}
-use Rattle.wl_scan.specs.declared.token.ScanFault.{ScanFault}
-use Rattle.wl_session.specs.Refusal.{fault_line, place_line}
-use Rattle.wl_session.specs.Sums.{begun, is_unsupported, misplaced, numbers}
+use Rattle.wl_syntax.specs.declared.fault.SyntaxFault.{SyntaxFault}
+use Rattle.wl_syntax.specs.declared.fault.SyntaxFault.TheVariants.{Memory}
+use Rattle.wl_syntax.specs.Depth.{depth, max_depth}
+use Rattle.wl_syntax.specs.Lower.{lower}
+use Rattle.wl_syntax.specs.Reads.{HasTree, Refused}
+use Rattle.wl_syntax.specs.Tree as syntax
+use Rattle.wl_session.specs.Refusal.{syntax_line, too_long_line}
 
 -- a cell is refused with a line of text that says why, or read as a tree
 pub data Reading : Type 0 where
   refused : List ℕ → Reading
   read : Tree → Reading
 
-abbrev pub not_supported : List ℕ
-not_supported = codes "Refused: not supported yet."
+-- the bytes have a right tree, which isn't too deep, and e is what it stands for
+pub record IsReadAs (bytes : List ℕ) (e : Tree) : Type 0 where
+  pub tree : syntax.Tree
+  pub right : HasTree bytes tree
+  pub shallow : depth tree ≤ max_depth
+  pub lowered : e ≡ lower tree
 
--- a number stands for itself, and any others for their sum
-abbrev pub sum_tree : List Fraction → Tree
-sum_tree (f ∷ []) = num f
-sum_tree fs = node (symbol (codes "Plus")) (from_list (map num fs))
-
--- numbers, unless a `+` is misplaced
-abbrev pub placed_reading : List Fraction → Option ℕ → Reading
-placed_reading fs None = read (sum_tree fs)
-placed_reading fs (Some at) = refused (place_line (codes "Refused: unexpected input") at)
-
-abbrev pub supported_reading : Bool → List Fraction → Option ℕ → Reading
-supported_reading unsupported fs place = if unsupported then refused not_supported else placed_reading fs place
-
-abbrev pub token_reading : List Lexeme → Reading
-token_reading tokens = supported_reading (is_unsupported begun tokens) (numbers tokens) (misplaced begun tokens)
-
-abbrev pub scan_reading : List Lexeme → Option ScanFault → Reading
-scan_reading tokens (Some fault) = refused (fault_line fault)
-scan_reading tokens None = token_reading tokens
-
--- bytes that are text, and bytes that are none
-pub data TextReads (bytes : List ℕ) (reading : Reading) : Type 0 where
-  as_text : IsUtf8 bytes → reading ≡ scan_reading (scanned bytes).tokens (scanned bytes).fault → TextReads bytes reading
-  as_bytes : ¬ IsUtf8 bytes → reading ≡ refused (codes "Refused: not UTF-8.") → TextReads bytes reading
+-- The bytes are refused for a cause that is in them; want of memory is in none.
+pub record IsRefusedWith (bytes line : List ℕ) : Type 0 where
+  pub fault : SyntaxFault
+  pub is_own : fault ≢ Memory
+  pub cause : Refused bytes fault
+  pub line_of : line ≡ syntax_line fault
 
 abbrev pub Reads : CellText → Reading → Type 0
-Reads (whole bytes) reading = TextReads bytes reading
-Reads too_long reading = reading ≡ refused (codes "Refused: cell longer than 131072 bytes.")
+Reads (whole bytes) (read e) = IsReadAs bytes e
+Reads (whole bytes) (refused line) = IsRefusedWith bytes line
+Reads too_long reading = reading ≡ refused too_long_line
 
 -- each of these cells is read so
 abbrev pub AllRead : List CellText → List Reading → Type 0

@@ -1,11 +1,13 @@
 -- The line that says why a cell is refused.
-use Rattle.std.specs.Prelude.{ℕ, List, ◌++◌, codes}
+use Rattle.std.specs.Prelude.{ℕ, List, [], ◌++◌, codes}
 use Rattle.std.specs.Fmt.{decimal}
 use Rattle.wl_scan.specs.declared.token.ScanKind.{ScanKind}
 use Rattle.wl_scan.specs.declared.token.ScanKind.TheVariants.{Real, LongNumber, BadChar, BadEscape, OpenString, OpenComment}
 use Rattle.wl_scan.specs.declared.token.ScanFault.{ScanFault}
+use Rattle.wl_syntax.specs.declared.fault.SyntaxFault.{SyntaxFault}
+use Rattle.wl_syntax.specs.declared.fault.SyntaxFault.TheVariants as syntax
 use Rattle.wl_session.specs.declared.refusal.Refusal.{Refusal}
-use Rattle.wl_session.specs.declared.refusal.Refusal.TheVariants.{TooLong, NotUtf8, Scan, Unexpected, NotSupported}
+use Rattle.wl_session.specs.declared.refusal.Refusal.TheVariants.{TooLong, Syntax, NotSupported}
 
 abbrev pub scan_text : ScanKind → List ℕ
 scan_text Real = codes "Refused: real number"
@@ -22,9 +24,22 @@ place_line text at = text ++ codes " at byte " ++ decimal at ++ codes "."
 abbrev pub fault_line : ScanFault → List ℕ
 fault_line fault = place_line (scan_text fault.kind) fault.at
 
+-- Want of memory has no line: it ends the run.
+abbrev pub syntax_line : SyntaxFault → List ℕ
+syntax_line syntax.NotUtf8 = codes "Refused: not UTF-8."
+syntax_line (syntax.Scan fault) = fault_line fault
+syntax_line syntax.Unclosed = codes "Refused: unfinished input."
+syntax_line (syntax.Unexpected at) = place_line (codes "Refused: unexpected input") at
+syntax_line syntax.TooDeep = codes "Refused: nested deeper than 400."
+syntax_line syntax.Memory = []
+
+abbrev pub too_long_line : List ℕ
+too_long_line = codes "Refused: cell longer than 131072 bytes."
+
+abbrev pub not_supported : List ℕ
+not_supported = codes "Refused: not supported yet."
+
 abbrev pub refusal_line : Refusal → List ℕ
-refusal_line TooLong = codes "Refused: cell longer than 131072 bytes."
-refusal_line NotUtf8 = codes "Refused: not UTF-8."
-refusal_line (Scan fault) = fault_line fault
-refusal_line (Unexpected at) = place_line (codes "Refused: unexpected input") at
-refusal_line NotSupported = codes "Refused: not supported yet."
+refusal_line TooLong = too_long_line
+refusal_line (Syntax fault) = syntax_line fault
+refusal_line NotSupported = not_supported

@@ -1,10 +1,14 @@
 //! Laws over the definitions of a transcript, each proved as the contract of a function that does nothing.
 ghost use Rattle.wl_session.specs.Laws.{OneTranscript, WorkedRows};
 
+use wl_syntax::laws::one_answer;
+
 /// A command line and the bytes of its source have one transcript.
 pub fn one_transcript()
     ensures { OneTranscript }
-{}
+{
+    one_answer();
+}
 
 /// What is written for a few readings of cells.
 pub fn worked_rows()

@@ -7,7 +7,6 @@ mod reading;
 mod refusal;
 mod session;
 mod streaming;
-mod sums;
 #[cfg(test)]
 mod tests;
 mod top;

@@ -1,18 +1,17 @@
 //! Why a cell is refused.
 ghost use Rattle.std.specs.Prelude.{◌≡◌, IfOk, string_bytes};
-ghost use Rattle.wl_session.specs.Refusal.{refusal_line, place_line, scan_text};
+ghost use Rattle.wl_session.specs.Refusal.{refusal_line, syntax_line, place_line, scan_text};
 
 use std::alloc::Global;
 use wl_ports::Memory;
-use wl_scan::{ScanFault, ScanKind};
+use wl_scan::ScanKind;
+use wl_syntax::SyntaxFault;
 
 /// Why a cell is refused.
-#[derive(Drop, Clone, Copy)]
+#[derive(Drop)]
 pub(crate) enum Refusal {
     TooLong,
-    NotUtf8,
-    Scan(ScanFault),
-    Unexpected(u32),
+    Syntax(SyntaxFault),
     NotSupported,
 }
 
@@ -22,10 +21,22 @@ pub(crate) fn refusal_line(alloc: Global, refusal: Refusal) -> Result<String, Me
 {
     match refusal {
         Refusal::TooLong => plain_line(alloc, "Refused: cell longer than 131072 bytes."),
-        Refusal::NotUtf8 => plain_line(alloc, "Refused: not UTF-8."),
-        Refusal::Scan(fault) => place_line(alloc, scan_text(fault.kind), fault.at),
-        Refusal::Unexpected(at) => place_line(alloc, "Refused: unexpected input", at),
+        Refusal::Syntax(fault) => syntax_line(alloc, fault),
         Refusal::NotSupported => plain_line(alloc, "Refused: not supported yet."),
+    }
+}
+
+/// Want of memory has no line.
+fn syntax_line(alloc: Global, fault: SyntaxFault) -> Result<String, Memory>
+    ensures { IfOk result (λ line. string_bytes line ≡ syntax_line fault) }
+{
+    match fault {
+        SyntaxFault::NotUtf8 => plain_line(alloc, "Refused: not UTF-8."),
+        SyntaxFault::Scan(fault) => place_line(alloc, scan_text(fault.kind), fault.at),
+        SyntaxFault::Unclosed => plain_line(alloc, "Refused: unfinished input."),
+        SyntaxFault::Unexpected(at) => place_line(alloc, "Refused: unexpected input", at),
+        SyntaxFault::TooDeep => plain_line(alloc, "Refused: nested deeper than 400."),
+        SyntaxFault::Memory => Err(Memory),
     }
 }
 

@@ -60,7 +60,7 @@ fn refusals(rt: HostRuntime) -> Result<(), Fail> {
     let rows: [(&[u8], &str, u8); 3] = [
         (
             b"1.5\n1 + 1\nf[1,",
-            "Refused: real number at byte 1.\nOut[1]= 2\nRefused: not supported yet.\n",
+            "Refused: real number at byte 1.\nOut[1]= 2\nRefused: unfinished input.\n",
             1,
         ),
         (b"\xff\n", "Refused: not UTF-8.\n", 1),
@@ -72,6 +72,54 @@ fn refusals(rt: HostRuntime) -> Result<(), Fail> {
     ];
     for (text, expected, status) in rows {
         answers(&rt, rt.alloc(), text, expected, status)?;
+    }
+    Ok(())
+}
+
+/// What is answered by the tree, however it is written, and what isn't supported yet.
+#[test]
+fn trees(rt: HostRuntime) -> Result<(), Fail> {
+    let rows: [(&[u8], &str, u8); 5] = [
+        (
+            b"(1)\n-0\n1 // Plus\nPlus[1, 2]\nPlus @ 3\nPlus[]\n(1 +\n2)\n",
+            "Out[1]= 1\nOut[2]= 0\nOut[3]= 1\nOut[4]= 3\nOut[5]= 3\nOut[6]= 0\nOut[7]= 3\n",
+            0,
+        ),
+        (
+            b"(1 + 2) + 3\n1 - 2\n-1\n2 3\n1;\n1 + x\n\"1\"\n1/2\n",
+            "Refused: not supported yet.\nRefused: not supported yet.\nRefused: not supported yet.\nRefused: not supported yet.\nRefused: not supported yet.\nRefused: not supported yet.\nRefused: not supported yet.\nRefused: not supported yet.\n",
+            1,
+        ),
+        (
+            b"x ^ ^ 2\nf[a,,b]\n!!a\n)\n1 + 1\n",
+            "Refused: unexpected input at byte 5.\nRefused: unexpected input at byte 5.\nRefused: unexpected input at byte 1.\nRefused: unexpected input at byte 1.\nOut[1]= 2\n",
+            1,
+        ),
+        (b"g /: l\n", "Refused: unfinished input.\n", 1),
+        (b"(1\n1 + 1\n", "Refused: unfinished input.\n", 1),
+    ];
+    for (text, expected, status) in rows {
+        answers(&rt, rt.alloc(), text, expected, status)?;
+    }
+    Ok(())
+}
+
+#[test]
+fn deepest_cell(rt: HostRuntime) -> Result<(), Fail> {
+    let rows = [
+        (399, "Out[1]= 1\n", 0),
+        (400, "Refused: nested deeper than 400.\n", 1),
+    ];
+    for (brackets, expected, status) in rows {
+        let mut text = Vec::from_elem(rt.alloc(), b'(', 2 * brackets + 1)?;
+        for (i, byte) in text.iter_mut().enumerate() {
+            if i == brackets {
+                *byte = b'1';
+            } else if i > brackets {
+                *byte = b')';
+            }
+        }
+        answers(&rt, rt.alloc(), text.as_slice(), expected, status)?;
     }
     Ok(())
 }

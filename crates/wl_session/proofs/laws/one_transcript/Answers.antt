@@ -1,26 +1,36 @@
 use Rattle.std.proofs.Common.{◌≡◌, ℕ, List, [], ◌∷◌, refl, ap, sym, ◌∙◌}
 use Rattle.wl_scan.specs.Cells.{CellText, whole, too_long}
-use Rattle.wl_session.specs.Reading.{Reading, Reads, AllRead, TextReads, as_text, as_bytes}
+use Rattle.wl_expr.specs.Tree.{Tree}
+use Rattle.wl_syntax.specs.Laws.{OneTree, NotRefused, OneCause, OneAnswer}
+use Rattle.wl_syntax.specs.Lower.{lower}
+use Rattle.wl_session.specs.Reading.{Reading, refused, read, Reads, AllRead, IsReadAs, IsRefusedWith}
+use Rattle.wl_session.specs.Refusal.{syntax_line}
 use Rattle.wl_session.specs.Transcript.{cells_read, transcript}
 use Rattle.wl_session.proofs.laws.one_transcript.Goals as goal
 
-text_read_once : (bytes : List ℕ) (r q : Reading) → TextReads bytes r → TextReads bytes q → r ≡ q
-text_read_once bytes r q (as_text utf8 is) (as_text utf8' is') = is ∙ sym is'
-text_read_once bytes r q (as_text utf8 is) (as_bytes other is') = absurd (other utf8)
-text_read_once bytes r q (as_bytes other is) (as_text utf8 is') = absurd (other utf8)
-text_read_once bytes r q (as_bytes other is) (as_bytes other' is') = is ∙ sym is'
+lines_same : (bytes line other : List ℕ) → OneCause → IsRefusedWith bytes line → IsRefusedWith bytes other → line ≡ other
+lines_same bytes line other law a b = a.line_of ∙ ap syntax_line (law bytes a.fault b.fault a.cause b.cause a.is_own b.is_own) ∙ sym b.line_of
 
-read_once : (c : CellText) (r q : Reading) → Reads c r → Reads c q → r ≡ q
-read_once (whole bytes) r q a b = text_read_once bytes r q a b
-read_once too_long r q a b = a ∙ sym b
+trees_same : (bytes : List ℕ) (e f : Tree) → OneTree → IsReadAs bytes e → IsReadAs bytes f → e ≡ f
+trees_same bytes e f law a b = a.lowered ∙ ap lower (law bytes a.tree b.tree a.right b.right) ∙ sym b.lowered
 
-all_read_once : (cs : List CellText) (rs qs : List Reading) → AllRead cs rs → AllRead cs qs → rs ≡ qs
-all_read_once [] [] [] a b = refl
-all_read_once [] [] (q ∷ qs) a b = absurd b
-all_read_once [] (r ∷ rs) qs a b = absurd a
-all_read_once (c ∷ cs) [] qs a b = absurd a
-all_read_once (c ∷ cs) (r ∷ rs) [] a b = absurd b
-all_read_once (c ∷ cs) (r ∷ rs) (q ∷ qs) a b = λ i. read_once c r q a.0 b.0 i ∷ all_read_once cs rs qs a.1 b.1 i
+not_both : (bytes : List ℕ) (e : Tree) (line : List ℕ) → NotRefused → IsReadAs bytes e → IsRefusedWith bytes line → ⊥
+not_both bytes e line law a b = b.is_own (law bytes a.tree a.right a.shallow b.fault b.cause)
+
+read_once : (c : CellText) (r q : Reading) → OneAnswer → Reads c r → Reads c q → r ≡ q
+read_once (whole bytes) (read e) (read f) law a b = ap (λ t. read t) (trees_same bytes e f law.0 a b)
+read_once (whole bytes) (read e) (refused line) law a b = absurd (not_both bytes e line law.1 a b)
+read_once (whole bytes) (refused line) (read e) law a b = absurd (not_both bytes e line law.1 b a)
+read_once (whole bytes) (refused line) (refused other) law a b = ap (λ l. refused l) (lines_same bytes line other law.2 a b)
+read_once too_long r q law a b = a ∙ sym b
+
+all_read_once : (cs : List CellText) (rs qs : List Reading) → OneAnswer → AllRead cs rs → AllRead cs qs → rs ≡ qs
+all_read_once [] [] [] law a b = refl
+all_read_once [] [] (q ∷ qs) law a b = absurd b
+all_read_once [] (r ∷ rs) qs law a b = absurd a
+all_read_once (c ∷ cs) [] qs law a b = absurd a
+all_read_once (c ∷ cs) (r ∷ rs) [] law a b = absurd b
+all_read_once (c ∷ cs) (r ∷ rs) (q ∷ qs) law a b = λ i. read_once c r q law a.0 b.0 i ∷ all_read_once cs rs qs law a.1 b.1 i
 
 pub returns : goal.returns
-returns c = λ asked bytes rs qs a b. ap (transcript asked bytes) (all_read_once (cells_read asked bytes) rs qs a b)
+returns c = λ asked bytes rs qs a b. ap (transcript asked bytes) (all_read_once (cells_read asked bytes) rs qs c.one_answer.ensures a b)
