@@ -2,13 +2,13 @@
 use Rattle.std.proofs.Common.{◌≡◌, ◌≢◌, ◌≤◌, ◌<◌, ◌+◌, ◌++◌, ◌⊎◌, ℕ, Bool, true, false, cond, nat_le, List, length, take, Option, Some, None, IsSome, IfSome, Result, Ok, Err, inl, inr, sym, subst, refl, arith, ap, ◌∙◌, append-nil, length-append}
 use Rattle.std.proofs.lemmas.Bool.Decides.{nat_tests}
 use Rattle.std.proofs.lemmas.List.{take-append-le}
-use Rattle.std.specs.Io.KnownBytes.{Consumes, IsAtEnd}
+use Rattle.std.specs.Io.KnownBytes.{Appends, Consumes, IsAtEnd}
 use Rattle.wl_ports.specs.Causes.{Rose, next_count}
-use Rattle.wl_session.specs.Answers.{Standing, fresh, standing_after}
+use Rattle.wl_session.specs.Answers.{Standing, fresh, standing_after, answers as answers_of}
 use Rattle.wl_session.specs.Reading.{Reading, AllRead}
 use Rattle.wl_scan.specs.Cells.{CellText}
 use Rattle.wl_scan.specs.Cells.{cells, ended, start}
-use Rattle.wl_session.specs.Ends.{status_of, IsTranscript, HasTaken, IsReadToEnd, IsFaultless, HasRisen}
+use Rattle.wl_session.specs.Ends.{status_of, IsTranscript, IsCutShort, HasTaken, IsReadToEnd, IsFaultless, HasRisen}
 use Rattle.wl_session.specs.Sitting.{Sitting, standing}
 use Rattle.wl_session.specs.Streaming.{Answers, IsBlamed, AnswersAll, AnswersFirst}
 use Rattle.wl_session.specs.Transcript.{transcript, cells_read, texts, input_limit}
@@ -95,6 +95,26 @@ played_tells r asked name sitting None b h i s m n x x' y y' status read new is 
 played_tells r asked name sitting (Some bytes) b h i s m n x x' y y' status read new is answers blamed = λ no_read_fault no_write_fault some_memory.
     subst (λ (w : Option (Option (List ℕ))). IsTranscript w bytes (record { status = status; session = Some sitting }) h i) read
     (played_is_transcript r name bytes sitting b h i m n x x' y y' status is (subst (λ (t : Standing). Answers r (Some bytes) b t (standing sitting) h i m n) new answers) blamed no_read_fault no_write_fault some_memory)
+
+-- a read fault leaves the cells answered that ended before it
+pub played_cut_short : (r : Result (Unit {0}) Stop) (sitting : Sitting) (a b h i : Option (List ℕ)) (s : Standing) (m n status : ℕ) → s ≡ fresh → status ≡ status_of r sitting.refused → Answers r a b s (standing sitting) h i m n → status ≡ 3
+    → IsCutShort (record { status = status; session = Some sitting }) a b h i
+played_cut_short (Ok done) sitting a b h i s m n status new is answers three = absurd (not_three sitting.refused (sym is ∙ three))
+  where
+    not_three : (refused : Bool) → status_of (Ok done) refused ≡ 3 → ⊥
+    not_three true e = omega arith
+    not_three false e = omega arith
+played_cut_short (Err WriteFault) sitting a b h i s m n status new is answers three = absurd (omega arith)
+played_cut_short (Err OutOfMemory) sitting a b h i s m n status new is answers three = absurd (omega arith)
+played_cut_short (Err TooLong) sitting a b h i s m n status new is answers three = absurd (omega arith)
+played_cut_short (Err ReadFault) sitting a b h i s m n status new is answers three = record {
+  bytes = answers.bytes;
+  taken = answers.taken;
+  readings = answers.answered.readings;
+  reads = answers.answered.reads;
+  out = subst (λ (t : Standing). Appends h i (answers_of t answers.answered.readings)) new answers.answered.written;
+  history = ap (λ (t : Standing). t.history) (answers.answered.standing ∙ ap (λ (t : Standing). standing_after t answers.answered.readings) new);
+}
 
 pub played_too_long : (r : Result (Unit {0}) Stop) (refused : Bool) (a b h i : Option (List ℕ)) (s s' : Standing) (m n status : ℕ) → status ≡ status_of r refused → Answers r a b s s' h i m n → status ≡ 6 → HasTaken (input_limit + 1) a b
 played_too_long (Ok done) true a b h i s s' m n status is answers six = absurd (omega arith)

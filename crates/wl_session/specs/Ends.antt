@@ -2,9 +2,10 @@
 use Rattle.std.specs.Prelude.{◌≡◌, ◌≢◌, ◌≤◌, ◌<◌, ◌-◌, ◌^◌, ◌++◌, ◌⊎◌, ℕ, Bool, true, false, List, [], length, Option, Some, None, IfSome, Result, Ok, Err}
 use Rattle.std.specs.Io.KnownBytes.{Appends, Consumes, IsAtEnd}
 use Rattle.wl_ports.specs.Causes.{Rose, next_count}
-use Rattle.wl_session.specs.Answers.{HistoryLine}
+use Rattle.wl_scan.specs.Cells.{start, ended}
+use Rattle.wl_session.specs.Answers.{HistoryLine, fresh, standing_after, answers}
 use Rattle.wl_session.specs.Sitting.{Sitting, plain_lines}
-use Rattle.wl_session.specs.Transcript.{transcript, cells_read, input_limit}
+use Rattle.wl_session.specs.Transcript.{transcript, cells_read, texts, input_limit}
 use Rattle.wl_session.specs.Reading.{Reading, AllRead}
 use Rattle.wl_session.specs.Words.{Asked}
 use Rattle.wl_session.specs.declared.ended.Ended.{Ended}
@@ -26,12 +27,22 @@ history_of None = []
 history_of (Some sitting) = plain_lines sitting.lines
 
 -- the status, the bytes on `out` and the history are those of the transcript, for the cells as they are read
-pub record IsTranscript (asked : Asked) (bytes : List ℕ) (ended : Ended) (held held' : Option (List ℕ)) : Type 0 where
+pub record IsTranscript (asked : Asked) (bytes : List ℕ) (end : Ended) (held held' : Option (List ℕ)) : Type 0 where
   pub readings : List Reading
   pub reads : AllRead (cells_read asked bytes) readings
-  pub status : ended.status ≡ (transcript asked bytes readings).status
+  pub status : end.status ≡ (transcript asked bytes readings).status
   pub out : Appends held held' (transcript asked bytes readings).out
-  pub history : history_of ended.session ≡ (transcript asked bytes readings).history
+  pub history : history_of end.session ≡ (transcript asked bytes readings).history
+
+-- Of the bytes that were taken from the source, where it tells them, the cells that ended within them were answered as they
+-- are read, and no others.
+pub record IsCutShort (end : Ended) (left left' held held' : Option (List ℕ)) : Type 0 where
+  pub bytes : List ℕ
+  pub taken : Consumes left left' bytes
+  pub readings : List Reading
+  pub reads : AllRead (texts (ended start bytes)) readings
+  pub out : Appends held held' (answers fresh readings)
+  pub history : history_of end.session ≡ (standing_after fresh readings).history
 
 -- so many bytes were taken from the source, where it tells them
 pub record HasTaken (n : ℕ) (left left' : Option (List ℕ)) : Type 0 where

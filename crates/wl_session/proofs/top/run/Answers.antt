@@ -1,10 +1,13 @@
-use Rattle.wl_session.proofs.Ending.{played_tells, played_too_long, too_long_played, read_to_end_played, complete_played, strayed}
+use Rattle.wl_session.proofs.Ending.{played_tells, played_cut_short, played_too_long, too_long_played, read_to_end_played, complete_played, strayed}
 use Rattle.wl_session.proofs.top.run.Goals as goal
 
 pub returns-clause-transcript : goal.returns-clause-transcript
 returns-clause-transcript g c =
     let played = c.play-played.ensures in
     played_tells c.play-played.result _ _ _ _ _ _ _ _ _ _ _ _ _ _ _ c.in-Some.ensures c.new-session.ensures c.status_of-status.ensures played.answers played.blamed
+
+pub returns-clause-cut_short : goal.returns-clause-cut_short
+returns-clause-cut_short g c = played_cut_short c.play-played.result _ _ _ _ _ _ _ _ _ c.new-session.ensures c.status_of-status.ensures c.play-played.ensures.answers
 
 pub returns-clause-too_long_only : goal.returns-clause-too_long_only
 returns-clause-too_long_only g c = played_too_long c.play-played.result _ _ _ _ _ _ _ _ _ _ c.status_of-status.ensures c.play-played.ensures.answers
