@@ -10,11 +10,11 @@ use Rattle.wl_syntax.specs.declared.parser.TreeFault.{TreeFault}
 use Rattle.wl_syntax.specs.declared.parser.TreeFault.TheVariants.{Unexpected}
 use Rattle.wl_syntax.specs.Answers.{Answers, IsTreeOf, IsUnclosed, IsUnexpected}
 use Rattle.wl_syntax.specs.Depth.{depth, max_depth}
-use Rattle.wl_expr.specs.Stamped.{Stamped, unstamped}
+use Rattle.wl_expr.specs.Stamped.{Stamped, plain, unstamped, plain_unstamped}
 use Rattle.wl_syntax.specs.Lexer.{grammar_token, tokens}
 use Rattle.wl_syntax.specs.Lower.{lower}
 use Rattle.wl_syntax.specs.Polish.{Node, polish}
-use Rattle.wl_syntax.specs.Reads.{IsScanned, StandsAt, HasTree}
+use Rattle.wl_syntax.specs.Reads.{IsScanned, StandsAt, HasTree, IsReadAs}
 use Rattle.wl_syntax.specs.Token.{Token}
 use Rattle.wl_syntax.specs.Tree.{Tree}
 
@@ -27,8 +27,11 @@ pub record Lexed (bytes : List ℕ) (ls : List CodeLexeme) (ks : List Token) : T
 lexed_tokens : (bytes : List ℕ) (ls : List CodeLexeme) (ks : List Token) → Lexed bytes ls ks → ks ≡ tokens bytes
 lexed_tokens bytes ls ks h = h.grammar ∙ ap (map grammar_token) (sym h.lexemes)
 
-pub tree_read : (bytes : List ℕ) (ls : List CodeLexeme) (ks : List Token) (ns : List Node) (e : Stamped) → Lexed bytes ls ks → (t : Tree) × IsTreeOf ks t × (ns ≡ polish t) → ((t : Tree) → ns ≡ polish t → (depth t ≤ max_depth) × (e ≡ unstamped (lower t))) → (t : Tree) × HasTree bytes t × (depth t ≤ max_depth) × (e ≡ unstamped (lower t))
-tree_read bytes ls ks ns e h (t, r, p) f = let d = f t p in (t, (h.scanned_text, subst (λ k. IsTreeOf k t) (lexed_tokens bytes ls ks h) r), d.0, d.1)
+pub tree_read : (bytes : List ℕ) (ls : List CodeLexeme) (ks : List Token) (ns : List Node) (e : Stamped) → Lexed bytes ls ks → (t : Tree) × IsTreeOf ks t × (ns ≡ polish t) → ((t : Tree) → ns ≡ polish t → (depth t ≤ max_depth) × (e ≡ unstamped (lower t))) → IsReadAs bytes (plain e) × (e ≡ unstamped (plain e))
+tree_read bytes ls ks ns e h (t, r, p) f =
+    let d = f t p in
+    let l : plain e ≡ lower t = ap plain d.1 ∙ plain_unstamped (lower t) in
+    (record { tree = t; right = (h.scanned_text, subst (λ k. IsTreeOf k t) (lexed_tokens bytes ls ks h) r); shallow = d.0; lowered = l }, d.1 ∙ ap unstamped (sym l))
 
 pub deep_read : (bytes : List ℕ) (ls : List CodeLexeme) (ks : List Token) (ns : List Node) → Lexed bytes ls ks → (t : Tree) × IsTreeOf ks t × (ns ≡ polish t) → ((t : Tree) → ns ≡ polish t → max_depth < depth t) → (t : Tree) × HasTree bytes t × (max_depth < depth t)
 deep_read bytes ls ks ns h (t, r, e) f = (t, (h.scanned_text, subst (λ k. IsTreeOf k t) (lexed_tokens bytes ls ks h) r), f t e)

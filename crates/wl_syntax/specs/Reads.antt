@@ -3,7 +3,8 @@
 use Rattle.std.specs.Prelude.{ℕ, ◌≡◌, ◌≤◌, ◌<◌, List, Some, None, Result, Ok, Err, map}
 use Rattle.std.specs.Str.{IsUtf8}
 use Rattle.std.specs.List.{slice_get}
-use Rattle.wl_expr.specs.Stamped.{Stamped, unstamped}
+use Rattle.wl_expr.specs.Stamped.{Stamped, plain, unstamped}
+use Rattle.wl_expr.specs.Tree as full
 use Rattle.wl_scan.specs.Tokens.{Lexeme, scanned}
 use Rattle.wl_syntax.specs.declared.fault.SyntaxFault.{SyntaxFault}
 use Rattle.wl_syntax.specs.declared.fault.SyntaxFault.TheVariants.{NotUtf8, Scan, Unclosed, Unexpected, TooDeep, Memory}
@@ -34,8 +35,15 @@ Refused bytes (Unexpected at) = IsScanned bytes × ((place : ℕ) × IsUnexpecte
 Refused bytes TooDeep = (t : Tree) × HasTree bytes t × (max_depth < depth t)
 Refused bytes Memory = Unit {0}
 
+-- The bytes have a right tree, which isn't too deep, and e is what it stands for.
+pub record IsReadAs (bytes : List ℕ) (e : full.Tree) : Type 0 where
+  pub tree : Tree
+  pub right : HasTree bytes tree
+  pub shallow : depth tree ≤ max_depth
+  pub lowered : e ≡ lower tree
+
 abbrev pub Reads : List ℕ → Result Stamped SyntaxFault → Type 0
-Reads bytes (Ok e) = (t : Tree) × HasTree bytes t × (depth t ≤ max_depth) × (e ≡ unstamped (lower t))
+Reads bytes (Ok e) = IsReadAs bytes (plain e) × (e ≡ unstamped (plain e))
 Reads bytes (Err f) = Refused bytes f
 
 -- the tokens of a text, or its fault

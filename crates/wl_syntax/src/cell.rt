@@ -1,8 +1,9 @@
 //! A cell as an expression.
 ghost use Rattle.std.specs.Prelude.{◌≡◌, ◌≤◌, IfOk, IfErr, MatchResult, None, Vec, length, map};
+ghost use Rattle.wl_expr.specs.Stamped.{plain, unstamped};
 ghost use Rattle.wl_scan.specs.TokenParts.{lexeme_of};
 ghost use Rattle.wl_scan.specs.Tokens.{scanned};
-ghost use Rattle.wl_syntax.specs.Reads.{Reads, Scans};
+ghost use Rattle.wl_syntax.specs.Reads.{IsReadAs, Refused, Reads, Scans};
 
 use crate::build::{BuildFault, build_expr};
 use crate::fault::SyntaxFault;
@@ -30,10 +31,13 @@ fn scan<'a>(alloc: Global, text: &'a str) -> Result<Vec<Lexeme<'a>>, SyntaxFault
     }
 }
 
-/// The expression of the one right tree of a cell.
+/// The expression of the one right tree of a cell; else the fault is the first cause that holds, and a byte's place in it
+/// counts from 1. `Memory` says that memory ran out.
 pub fn parse(alloc: Global, bytes: &[u8]) -> Result<Expr, SyntaxFault>
     requires { length bytes.now ≤ 131072 }
-    ensures { Reads bytes.now result }
+    ensures read { IfOk result (λ e. IsReadAs bytes.now (plain e)) }
+    ensures unstamped { IfOk result (λ e. e ≡ unstamped (plain e)) }
+    ensures refused { IfErr result (λ fault. Refused bytes.now fault) }
 {
     match std::str::from_utf8(bytes) {
         Ok(text) => Ok(parse_text(alloc, text)?),
