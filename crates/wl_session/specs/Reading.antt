@@ -1,26 +1,16 @@
 -- How a cell is read: as the expression of its right tree, or not at all.
-use Rattle.std.specs.Prelude.{◌≡◌, ◌≢◌, ◌≤◌, ⊤, ℕ, List, [], ◌∷◌}
+use Rattle.std.specs.Prelude.{◌≡◌, ◌≢◌, ⊤, ℕ, List, [], ◌∷◌}
 use Rattle.wl_expr.specs.Tree.{Tree}
 use Rattle.wl_scan.specs.Cells.{CellText, whole, too_long}
 use Rattle.wl_syntax.specs.declared.fault.SyntaxFault.{SyntaxFault}
 use Rattle.wl_syntax.specs.declared.fault.SyntaxFault.TheVariants.{Memory}
-use Rattle.wl_syntax.specs.Depth.{depth, max_depth}
-use Rattle.wl_syntax.specs.Lower.{lower}
-use Rattle.wl_syntax.specs.Reads.{HasTree, Refused}
-use Rattle.wl_syntax.specs.Tree as syntax
+use Rattle.wl_syntax.specs.Reads.{IsReadAs, Refused}
 use Rattle.wl_session.specs.Refusal.{syntax_line, too_long_line}
 
 -- a cell is refused with a line of text that says why, or read as a tree
 pub data Reading : Type 0 where
   refused : List ℕ → Reading
   read : Tree → Reading
-
--- the bytes have a right tree, which isn't too deep, and e is what it stands for
-pub record IsReadAs (bytes : List ℕ) (e : Tree) : Type 0 where
-  pub tree : syntax.Tree
-  pub right : HasTree bytes tree
-  pub shallow : depth tree ≤ max_depth
-  pub lowered : e ≡ lower tree
 
 -- The bytes are refused for a cause that is in them; want of memory is in none.
 pub record IsRefusedWith (bytes line : List ℕ) : Type 0 where

@@ -3,7 +3,8 @@ use Rattle.wl_scan.specs.Cells.{CellText, whole, too_long}
 use Rattle.wl_expr.specs.Tree.{Tree}
 use Rattle.wl_syntax.specs.Laws.{OneTree, NotRefused, OneCause, OneAnswer}
 use Rattle.wl_syntax.specs.Lower.{lower}
-use Rattle.wl_session.specs.Reading.{Reading, refused, read, Reads, AllRead, IsReadAs, IsRefusedWith}
+use Rattle.wl_syntax.specs.Reads.{IsReadAs}
+use Rattle.wl_session.specs.Reading.{Reading, refused, read, Reads, AllRead, IsRefusedWith}
 use Rattle.wl_session.specs.Refusal.{syntax_line}
 use Rattle.wl_session.specs.Transcript.{cells_read, transcript}
 use Rattle.wl_session.proofs.laws.one_transcript.Goals as goal
