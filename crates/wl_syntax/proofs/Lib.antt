@@ -18,3 +18,4 @@ pub mod Unique
 pub mod Digits
 pub mod Marks
 pub mod Strings
+pub mod Computing

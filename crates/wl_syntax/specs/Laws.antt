@@ -1,9 +1,11 @@
 -- The laws of the grammar.
-use Rattle.std.specs.Prelude.{ℕ, true, ◌≡◌, ◌≤◌, ◌↔◌, List, [], Some}
+use Rattle.std.specs.Prelude.{ℕ, ℤ, pos, negsuc, true, ◌≡◌, ◌≤◌, ◌↔◌, List, [], ◌∷◌, Some, codes}
+use Rattle.wl_expr.specs.Tree as full
 use Rattle.wl_syntax.specs.declared.fault.SyntaxFault.{SyntaxFault}
-use Rattle.wl_syntax.specs.declared.fault.SyntaxFault.TheVariants.{Memory}
+use Rattle.wl_syntax.specs.declared.fault.SyntaxFault.TheVariants.{Unclosed, Unexpected, Memory}
+use Rattle.wl_syntax.specs.Atoms.{named, whole_number}
 use Rattle.wl_syntax.specs.Depth.{depth, max_depth}
-use Rattle.wl_syntax.specs.Reads.{HasTree, Refused}
+use Rattle.wl_syntax.specs.Reads.{HasTree, IsReadAs, Refused}
 use Rattle.wl_syntax.specs.Token.{Token}
 use Rattle.wl_syntax.specs.Tree.{Tree, Right, reads}
 use Rattle.wl_syntax.specs.Machine.{wants, run, parse, IsAlive}
@@ -35,3 +37,40 @@ OneCause = (bytes : List ℕ) (f g : SyntaxFault) → Refused bytes f → Refuse
 
 abbrev pub OneAnswer : Type 0
 OneAnswer = OneTree × NotRefused × OneCause
+
+-- worked cells
+
+abbrev pub name : List ℕ → full.Tree
+name s = full.symbol s
+
+abbrev pub number : ℤ → full.Tree
+number z = whole_number z
+
+-- `x -> y & /@ {1}`: a postfix operator that binds loosely ends all that is open before a tight infix one
+abbrev pub LoosePostfix : Type 0
+LoosePostfix =
+    IsReadAs (codes "x -> y & /@ {1}")
+    (named (codes "Map") (named (codes "Function") (named (codes "Rule") (name (codes "x") ∷ name (codes "y") ∷ []) ∷ []) ∷ named (codes "List") (number (pos 1) ∷ []) ∷ []))
+
+-- `a < b <= c`: comparisons of two kinds
+abbrev pub MixedComparison : Type 0
+MixedComparison = IsReadAs (codes "a < b <= c") (named (codes "Inequality") (name (codes "a") ∷ name (codes "Less") ∷ name (codes "b") ∷ name (codes "LessEqual") ∷ name (codes "c") ∷ []))
+
+-- `a - 2 b` and `a - (2)`: negation turns the number that a product begins with, and stops at parentheses
+abbrev pub Negations : Type 0
+Negations =
+    IsReadAs (codes "a - 2 b") (named (codes "Plus") (name (codes "a") ∷ named (codes "Times") (number (negsuc 1) ∷ name (codes "b") ∷ []) ∷ []))
+    × IsReadAs (codes "a - (2)") (named (codes "Plus") (name (codes "a") ∷ named (codes "Times") (number (negsuc 0) ∷ number (pos 2) ∷ []) ∷ []))
+
+-- `g/:a=. x=5`: the ending that is written behind `g/:a=.` has no tree, but this has
+abbrev pub DottedTag : Type 0
+DottedTag =
+    IsReadAs (codes "g/:a=. x=5")
+    (named (codes "TagSet") (name (codes "g") ∷ named (codes "Times") (named (codes "Unset") (name (codes "a") ∷ []) ∷ name (codes "x") ∷ []) ∷ number (pos 5) ∷ []))
+
+-- a sign that can't stand there; the beginning of a definition; and one that its ending doesn't make whole
+abbrev pub Refusals : Type 0
+Refusals = Refused (codes "x ^ ^ 2") (Unexpected 5) × Refused (codes "g /: l") Unclosed × Refused (codes "g/:a=. x") (Unexpected 8)
+
+abbrev pub WorkedCells : Type 0
+WorkedCells = LoosePostfix × MixedComparison × Negations × DottedTag × Refusals

@@ -1,5 +1,5 @@
 //! Laws of the grammar, each the contract of a function without parameters.
-ghost use Rattle.wl_syntax.specs.Laws.{OneReading, ParseIs, ViableIs, OneAnswer};
+ghost use Rattle.wl_syntax.specs.Laws.{OneReading, ParseIs, ViableIs, OneAnswer, WorkedCells};
 
 /// Two right trees that read as the same tokens are the same tree.
 pub fn one_reading()
@@ -19,4 +19,9 @@ pub fn viable_is()
 /// A cell has one answer at most, want of memory apart.
 pub fn one_answer()
     ensures { OneAnswer }
+{}
+
+/// What a few cells are read as.
+pub fn worked_cells()
+    ensures { WorkedCells }
 {}
