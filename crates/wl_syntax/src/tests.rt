@@ -1,6 +1,7 @@
 //! Cells and their expressions, written in full, or their refusals.
 use super::*;
 use std::alloc::Global;
+use std::process::Abort;
 use std::test::Fail;
 use wl_expr::{Expr, Look};
 
@@ -55,6 +56,14 @@ fn answer(alloc: Global, cell: &[u8]) -> Result<String, Fail> {
         Err(SyntaxFault::TooDeep) => Ok(String::from_str(alloc, "TooDeep")?),
         Err(SyntaxFault::Memory) => Ok(String::from_str(alloc, "Memory")?),
     }
+}
+
+fn all_answered(rt: &impl Abort, alloc: Global, rows: &[(&str, &str)]) -> Result<(), Fail> {
+    for (cell, wanted) in rows {
+        let got = answer(alloc, cell.as_bytes())?;
+        assert_eq!(rt; got.as_str(), *wanted, "{cell}");
+    }
+    Ok(())
 }
 
 #[test]
@@ -120,11 +129,59 @@ fn cells_and_answers(rt: HostRuntime) -> Result<(), Fail> {
         ("1.5", "Scan 1"),
         ("", "Unclosed"),
     ];
-    for (cell, wanted) in rows {
-        let got = answer(rt.alloc(), cell.as_bytes())?;
-        assert_eq!(rt; got.as_str(), wanted, "{cell}");
-    }
-    Ok(())
+    all_answered(&rt, rt.alloc(), &rows)
+}
+
+/// A row for each operator that the others don't have, twice where it shows how it leans.
+#[test]
+fn operators(rt: HostRuntime) -> Result<(), Fail> {
+    let rows = [
+        ("s::t", "MessageName[s, \"t\"]"),
+        ("p?t", "PatternTest[p, t]"),
+        ("--x", "PreDecrement[x]"),
+        ("x--", "Decrement[x]"),
+        ("f @ g @ x", "f[g[x]]"),
+        ("f /@ g /@ x", "Map[f, Map[g, x]]"),
+        ("f @@ x", "Apply[f, x]"),
+        ("f @@@ x", "MapApply[f, x]"),
+        ("x! !", "Factorial[Factorial[x]]"),
+        ("a <> b <> c", "StringJoin[a, b, c]"),
+        ("a^b^c", "Power[a, Power[b, c]]"),
+        ("a/b/c", "Times[Times[a, Power[b, -1]], Power[c, -1]]"),
+        ("a*b c", "Times[a, b, c]"),
+        ("a == b", "Equal[a, b]"),
+        ("a != b", "Unequal[a, b]"),
+        ("a > b > c", "Greater[a, b, c]"),
+        ("a >= b", "GreaterEqual[a, b]"),
+        ("a =!= b", "UnsameQ[a, b]"),
+        ("a && b && c", "And[a, b, c]"),
+        ("a || b", "Or[a, b]"),
+        ("p..", "Repeated[p]"),
+        ("p...", "RepeatedNull[p]"),
+        ("a | b | c", "Alternatives[a, b, c]"),
+        ("a:b:c", "Optional[Pattern[a, b], c]"),
+        ("a ~~ b", "StringExpression[a, b]"),
+        ("a /; b /; c", "Condition[Condition[a, b], c]"),
+        ("a -> b -> c", "Rule[a, Rule[b, c]]"),
+        ("a :> b", "RuleDelayed[a, b]"),
+        ("a /. b /. c", "ReplaceAll[ReplaceAll[a, b], c]"),
+        ("a //. b", "ReplaceRepeated[a, b]"),
+        ("a += b", "AddTo[a, b]"),
+        ("a -= b", "SubtractFrom[a, b]"),
+        ("a *= b", "TimesBy[a, b]"),
+        ("a /= b", "DivideBy[a, b]"),
+        ("b &", "Function[b]"),
+        ("a // f // g", "g[f[a]]"),
+        ("a = b = c", "Set[a, Set[b, c]]"),
+        ("a := b", "SetDelayed[a, b]"),
+        ("a ^= b", "UpSet[a, b]"),
+        ("a ^:= b", "UpSetDelayed[a, b]"),
+        ("g /: l := r", "TagSetDelayed[g, l, r]"),
+        ("x =.", "Unset[x]"),
+        ("f[]", "f[]"),
+        ("{}", "List[]"),
+    ];
+    all_answered(&rt, rt.alloc(), &rows)
 }
 
 fn brackets(alloc: Global, open: usize, close: usize) -> Result<String, Fail> {
