@@ -1,5 +1,5 @@
 //! What an atom stands for.
-ghost use Rattle.std.specs.Prelude.{◌≡◌, IfOk, IfSome, pos};
+ghost use Rattle.std.specs.Prelude.{◌≡◌, ◌<◌, ◌^◌, IfOk, SomeIff, pos};
 ghost use Rattle.wl_expr.specs.Stamped.{unstamped};
 ghost use Rattle.wl_expr.specs.Tree as full;
 ghost use Rattle.wl_syntax.specs.Atoms as atoms;
@@ -36,9 +36,9 @@ pub(crate) fn number_reach(atom: Atom<'_>) -> Option<u16>
     }
 }
 
-/// The number that digits write, where it has 127 bits, as each has that a token writes.
+/// The number that digits write, where it is below 2^128, as that of each token is.
 fn value_of(digits: &[u8]) -> Option<u128>
-    ensures { IfSome result (λ v. v ≡ atoms.value_of digits.now) }
+    ensures { SomeIff result (atoms.value_of digits.now < 2 ^ 128) (atoms.value_of digits.now) }
 {
     let mut value: u128 = 0;
     for digit in digits {
