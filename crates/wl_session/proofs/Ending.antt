@@ -1,7 +1,7 @@
 -- What a run's end says, by how it was played.
 use Rattle.std.proofs.Common.{◌≡◌, ◌≢◌, ◌≤◌, ◌<◌, ◌+◌, ◌++◌, ◌⊎◌, ℕ, Bool, true, false, cond, nat_le, List, length, take, Option, Some, None, IsSome, IfSome, Result, Ok, Err, inl, inr, sym, subst, refl, arith, ap, ◌∙◌, append-nil, length-append}
 use Rattle.std.proofs.lemmas.Bool.Decides.{nat_tests}
-use Rattle.std.proofs.lemmas.List.{take-append-le}
+use Rattle.std.proofs.lemmas.List.{take-append-le, length-map}
 use Rattle.std.specs.Io.KnownBytes.{Appends, Consumes, IsAtEnd}
 use Rattle.wl_ports.specs.Causes.{Rose, next_count}
 use Rattle.wl_session.specs.Answers.{Standing, fresh, standing_after, answers as answers_of}
@@ -10,25 +10,26 @@ use Rattle.wl_scan.specs.Cells.{CellText}
 use Rattle.wl_scan.specs.Cells.{cells, ended, start}
 use Rattle.wl_session.specs.Ends.{status_of, IsTranscript, IsCutShort, HasTaken, IsReadToEnd, IsFaultless, HasRisen}
 use Rattle.wl_session.specs.Sitting.{Sitting, standing}
-use Rattle.wl_session.specs.Streaming.{Answers, IsBlamed, AnswersAll, AnswersFirst}
+use Rattle.wl_session.specs.Stopping.{Answers}
+use Rattle.wl_session.specs.Streaming.{IsBlamed, AnswersAll, AnswersFirst}
 use Rattle.wl_session.specs.Transcript.{transcript, cells_read, texts, input_limit}
 use Rattle.wl_session.specs.declared.streaming.Stop.{Stop}
 use Rattle.wl_session.specs.declared.streaming.Stop.TheVariants.{ReadFault, WriteFault, OutOfMemory, TooLong}
 
-short_read : (name : Option (List ℕ)) (bytes : List ℕ) → length bytes ≤ input_limit → cells_read (Some name) bytes ≡ texts (cells bytes)
+pub short_read : (name : Option (List ℕ)) (bytes : List ℕ) → length bytes ≤ input_limit → cells_read (Some name) bytes ≡ texts (cells bytes)
 short_read name bytes few = let is_few : nat_le (length bytes) input_limit ≡ true = grind (arith, nat_tests) in rw is_few refl
 
 short_status : (name : Option (List ℕ)) (bytes : List ℕ) (readings : List Reading) → length bytes ≤ input_limit → (transcript (Some name) bytes readings).status ≡ cond (standing_after fresh readings).refused 1 0
 short_status name bytes readings few = let is_few : nat_le (length bytes) input_limit ≡ true = grind (arith, nat_tests) in rw is_few refl
 
-long_read : (name : Option (List ℕ)) (bytes : List ℕ) → input_limit < length bytes → cells_read (Some name) bytes ≡ texts (ended start (take input_limit bytes))
+pub long_read : (name : Option (List ℕ)) (bytes : List ℕ) → input_limit < length bytes → cells_read (Some name) bytes ≡ texts (ended start (take input_limit bytes))
 long_read name bytes many = let is_many : nat_le (length bytes) input_limit ≡ false = grind (arith, nat_tests) in rw is_many refl
 
 long_status : (name : Option (List ℕ)) (bytes : List ℕ) (readings : List Reading) → input_limit < length bytes → (transcript (Some name) bytes readings).status ≡ 6
 long_status name bytes readings many = let is_many : nat_le (length bytes) input_limit ≡ false = grind (arith, nat_tests) in rw is_many refl
 
 -- all bytes were taken
-taken_all : (bytes xs : List ℕ) (b : Option (List ℕ)) → Consumes (Some bytes) b xs → IsAtEnd b → xs ≡ bytes
+pub taken_all : (bytes xs : List ℕ) (b : Option (List ℕ)) → Consumes (Some bytes) b xs → IsAtEnd b → xs ≡ bytes
 taken_all bytes xs None took ends = absurd took
 taken_all bytes xs (Some ys) took ends = sym (took ∙ ap (λ (l : List ℕ). xs ++ l) ends ∙ append-nil xs)
 
@@ -115,6 +116,19 @@ played_cut_short (Err ReadFault) sitting a b h i s m n status new is answers thr
   out = subst (λ (t : Standing). Appends h i (answers_of t answers.answered.readings)) new answers.answered.written;
   history = ap (λ (t : Standing). t.history) (answers.answered.standing ∙ ap (λ (t : Standing). standing_after t answers.answered.readings) new);
 }
+
+-- each cell was begun once
+all_marked : (bytes : List ℕ) (b h i : Option (List ℕ)) (s s' : Standing) (m n : ℕ) → AnswersAll (Some bytes) b s s' h i m n → n ≡ m + length (cells bytes)
+all_marked bytes b h i s s' m n all =
+    all.answered.marked ∙ ap (λ (k : ℕ). m + k) (length-map (cells all.bytes) (λ c. c.text)) ∙ ap (λ (l : List ℕ). m + length (cells l)) (taken_all bytes all.bytes b all.taken all.at_end)
+
+pub played_marked : (r : Result (Unit {0}) Stop) (refused : Bool) (a b h i : Option (List ℕ)) (s s' : Standing) (m n status : ℕ) → status ≡ status_of r refused → Answers r a b s s' h i m n → status ≤ 1 → IfSome a (λ bytes. n ≡ m + length (cells bytes))
+played_marked r refused None b h i s s' m n status is answers few = tt
+played_marked (Ok done) refused (Some bytes) b h i s s' m n status is answers few = all_marked bytes b h i s s' m n answers
+played_marked (Err ReadFault) refused (Some bytes) b h i s s' m n status is answers few = absurd (omega arith)
+played_marked (Err WriteFault) refused (Some bytes) b h i s s' m n status is answers few = absurd (omega arith)
+played_marked (Err OutOfMemory) refused (Some bytes) b h i s s' m n status is answers few = absurd (omega arith)
+played_marked (Err TooLong) refused (Some bytes) b h i s s' m n status is answers few = absurd (omega arith)
 
 pub played_too_long : (r : Result (Unit {0}) Stop) (refused : Bool) (a b h i : Option (List ℕ)) (s s' : Standing) (m n status : ℕ) → status ≡ status_of r refused → Answers r a b s s' h i m n → status ≡ 6 → HasTaken (input_limit + 1) a b
 played_too_long (Ok done) true a b h i s s' m n status is answers six = absurd (omega arith)

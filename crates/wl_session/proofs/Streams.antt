@@ -50,7 +50,8 @@ streamed_some a b b' c s t h i m n room so_far more kept = record {
   answered = so_far.fed.answered;
 }
 
-front : (xs piece : List ℕ) (count limit : ℕ) → 0 < count → count ≤ length piece → length xs + count ≡ limit + 1 → take limit (xs ++ take count piece) ≡ xs ++ take (count - 1) piece
+-- the bytes that are read, where one more was taken
+pub front : (xs piece : List ℕ) (count limit : ℕ) → 0 < count → count ≤ length piece → length xs + count ≡ limit + 1 → take limit (xs ++ take count piece) ≡ xs ++ take (count - 1) piece
 front xs piece count limit some within budget =
     let first : limit ≡ length xs + (count - 1) = omega arith in
     let shorter : count - 1 ≤ length (take count piece) = omega (arith, length-take-le count piece within) in

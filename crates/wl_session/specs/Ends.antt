@@ -2,7 +2,7 @@
 use Rattle.std.specs.Prelude.{◌≡◌, ◌≢◌, ◌≤◌, ◌<◌, ◌-◌, ◌^◌, ◌++◌, ◌⊎◌, ℕ, Bool, true, false, List, [], length, Option, Some, None, IfSome, Result, Ok, Err}
 use Rattle.std.specs.Io.KnownBytes.{Appends, Consumes, IsAtEnd}
 use Rattle.wl_ports.specs.Causes.{Rose, next_count}
-use Rattle.wl_scan.specs.Cells.{start, ended}
+use Rattle.wl_scan.specs.Cells.{CellText, start, ended}
 use Rattle.wl_session.specs.Answers.{HistoryLine, fresh, standing_after, answers}
 use Rattle.wl_session.specs.Sitting.{Sitting, plain_lines}
 use Rattle.wl_session.specs.Transcript.{transcript, cells_read, texts, input_limit}
@@ -41,6 +41,32 @@ pub record IsCutShort (end : Ended) (left left' held held' : Option (List ℕ)) 
   pub taken : Consumes left left' bytes
   pub readings : List Reading
   pub reads : AllRead (texts (ended start bytes)) readings
+  pub out : Appends held held' (answers fresh readings)
+  pub history : history_of end.session ≡ (standing_after fresh readings).history
+
+-- Of these cells some were begun. Those before the last one of these have all their bytes written and it has a front of its
+-- own; the history is theirs.
+pub record IsBrokenOff (cells : List CellText) (end : Ended) (held held' : Option (List ℕ)) : Type 0 where
+  pub begun : List CellText
+  pub others : List CellText
+  pub all : cells ≡ begun ++ others
+  pub whole : List Reading
+  pub broken : List Reading
+  pub one : length broken ≤ 1
+  pub reads : AllRead begun (whole ++ broken)
+  pub front : List ℕ
+  pub rest : List ℕ
+  pub of_broken : answers (standing_after fresh whole) broken ≡ front ++ rest
+  pub out : Appends held held' (answers fresh whole ++ front)
+  pub history : history_of end.session ≡ (standing_after fresh (whole ++ broken)).history
+
+-- of these cells some were answered whole, and the history is theirs
+pub record IsLeftOff (cells : List CellText) (end : Ended) (held held' : Option (List ℕ)) : Type 0 where
+  pub answered : List CellText
+  pub others : List CellText
+  pub all : cells ≡ answered ++ others
+  pub readings : List Reading
+  pub reads : AllRead answered readings
   pub out : Appends held held' (answers fresh readings)
   pub history : history_of end.session ≡ (standing_after fresh readings).history
 

@@ -7,6 +7,7 @@ pub mod Reading
 pub mod Refusal
 pub mod Sitting
 pub mod Streaming
+pub mod Stopping
 pub mod Totals
 pub mod Transcript
 pub mod Words

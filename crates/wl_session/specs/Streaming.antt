@@ -1,5 +1,5 @@
 -- What is left of a run by how it stops: bytes taken from the source, cells answered, bytes written.
-use Rattle.std.specs.Prelude.{◌≡◌, ◌≤◌, ◌+◌, ℕ, List, length, take, Option, Result, Ok, Err, ⊤}
+use Rattle.std.specs.Prelude.{◌≡◌, ◌≤◌, ◌+◌, ℕ, List, length, take, Option, Result, Ok, Err}
 use Rattle.std.specs.Io.KnownBytes.{Appends, Consumes, IsAtEnd}
 use Rattle.wl_ports.specs.Causes.{Rose}
 use Rattle.wl_session.specs.Answers.{Standing, standing_after, answers}
@@ -59,10 +59,3 @@ pub record AnswersFirst (left left' : Option (List ℕ)) (s s' : Standing) (held
   pub taken : Consumes left left' bytes
   pub many : length bytes ≡ input_limit + 1
   pub answered : HasAnswered s s' held held' begun begun' (texts (ended start (take input_limit bytes)))
-
-abbrev pub Answers : Result (Unit {0}) Stop → Option (List ℕ) → Option (List ℕ) → Standing → Standing → Option (List ℕ) → Option (List ℕ) → ℕ → ℕ → Type 0
-Answers (Ok done) left left' s s' held held' begun begun' = AnswersAll left left' s s' held held' begun begun'
-Answers (Err ReadFault) left left' s s' held held' begun begun' = AnswersSome left left' s s' held held' begun begun'
-Answers (Err TooLong) left left' s s' held held' begun begun' = AnswersFirst left left' s s' held held' begun begun'
-Answers (Err WriteFault) left left' s s' held held' begun begun' = ⊤
-Answers (Err OutOfMemory) left left' s s' held held' begun begun' = ⊤

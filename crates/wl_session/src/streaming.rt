@@ -1,12 +1,13 @@
 //! A source is read in pieces, its bytes are cut into cells, and each cell is answered before more is read.
-ghost use Rattle.std.specs.Prelude.{◌≡◌, ◌≤◌, ◌<◌, ◌+◌, ◌^◌, ◌++◌, ℕ, List, [], ◌∷◌, length, take, IfOk, OnOk, OnErr, IsTrue, MatchResult, Result, Ok, Err};
+ghost use Rattle.std.specs.Prelude.{◌≡◌, ◌≤◌, ◌<◌, ◌+◌, ◌^◌, ◌++◌, ℕ, List, [], ◌∷◌, length, take, IfOk, IfErr, OnOk, OnErr, IsTrue, MatchResult, Result, Ok, Err};
 ghost use Rattle.std.specs.Io.KnownBytes.{Appends, Consumes, Keeps, IsAtEnd};
 ghost use Rattle.wl_ports.specs.Causes.{HasCause};
-ghost use Rattle.wl_scan.specs.Cells.{start, remainder, text_of};
+ghost use Rattle.wl_scan.specs.Cells.{start, ended, remainder, text_of};
 ghost use Rattle.wl_session.specs.Transcript.{texts};
 ghost use Rattle.wl_session.specs.Pieces.{IsWrittenInPart};
 ghost use Rattle.wl_session.specs.Sitting.{standing};
-ghost use Rattle.wl_session.specs.Streaming.{HasAnswered, HasFed, OutIsBlamed, IsBlamed, Answers};
+ghost use Rattle.wl_session.specs.Stopping.{HasStopped, Answers};
+ghost use Rattle.wl_session.specs.Streaming.{HasAnswered, HasFed, OutIsBlamed, IsBlamed};
 
 use crate::session::Session;
 use std::alloc::Global;
@@ -81,6 +82,8 @@ fn answer_cell<K: Sink, L: Ledger>(
     ensures blamed { OutIsBlamed result (K.faults out.old) (K.faults out.new) }
     ensures answered { OnOk result (HasAnswered (standing session.old) (standing session.new)
         (K.held out.old) (K.held out.new) (length work.old) (length work.new) (text_of cells.now ∷ [])) }
+    ensures stopped { IfErr result (λ stop. HasStopped stop (standing session.old) (standing session.new)
+        (K.held out.old) (K.held out.new) (length work.old) (length work.new) (text_of cells.now ∷ [])) }
 {
     work.mark();
     match session.answer(alloc, cells.cell()) {
@@ -106,6 +109,8 @@ fn feed<K: Sink, L: Ledger>(
     ensures blamed { OutIsBlamed result (K.faults out.old) (K.faults out.new) }
     ensures fed { OnOk result (HasFed cells.old cells.new (standing session.old) (standing session.new)
         (K.held out.old) (K.held out.new) (length work.old) (length work.new) piece.now) }
+    ensures stopped { IfErr result (λ stop. HasStopped stop (standing session.old) (standing session.new)
+        (K.held out.old) (K.held out.new) (length work.old) (length work.new) (texts (ended cells.old piece.now))) }
 {
     let mut at = 0;
     while at < piece.len() {
@@ -131,6 +136,8 @@ fn answer_rest<K: Sink, L: Ledger>(
 ) -> Result<(), Stop>
     ensures blamed { OutIsBlamed result (K.faults out.old) (K.faults out.new) }
     ensures answered { OnOk result (HasAnswered (standing session.old) (standing session.new)
+        (K.held out.old) (K.held out.new) (length work.old) (length work.new) (texts (remainder cells.old))) }
+    ensures stopped { IfErr result (λ stop. HasStopped stop (standing session.old) (standing session.new)
         (K.held out.old) (K.held out.new) (length work.old) (length work.new) (texts (remainder cells.old))) }
 {
     if !cells.finish() {

@@ -2,10 +2,11 @@
 ghost use Rattle.std.specs.Prelude.{◌≡◌, ◌≢◌, ◌≤◌, ◌<◌, ◌+◌, ◌↔◌, ◌⊎◌, ℕ, true, Option, Some, None, IsSome, IsNone, IfSome, OnOk, length, map, option_copied, string_bytes, Result, Ok, Err};
 ghost use Rattle.wl_ports.specs.Causes.{Rose, next_count};
 ghost use Rattle.wl_scan.specs.Cells.{start, cells};
-ghost use Rattle.wl_session.specs.Ends.{IsTold, IsTranscript, IsCutShort, IsFaultless, IsReadToEnd, HasTaken, HasRisen, status_of};
+ghost use Rattle.wl_session.specs.Ends.{IsTold, IsTranscript, IsCutShort, IsBrokenOff, IsLeftOff, IsFaultless, IsReadToEnd, HasTaken, HasRisen, status_of};
 ghost use Rattle.wl_session.specs.Sitting.{standing};
-ghost use Rattle.wl_session.specs.Streaming.{IsBlamed, Answers};
-ghost use Rattle.wl_session.specs.Transcript.{line_for, input_limit};
+ghost use Rattle.wl_session.specs.Stopping.{Answers};
+ghost use Rattle.wl_session.specs.Streaming.{IsBlamed};
+ghost use Rattle.wl_session.specs.Transcript.{line_for, input_limit, cells_read};
 ghost use Rattle.wl_session.specs.Words.{asked, words_of};
 
 use crate::ended::Ended;
@@ -112,7 +113,11 @@ pub fn run<S: Source, K: Sink, E: Sink, L: Ledger>(
     ensures read_fault_when { S.faults source.old < S.faults source.new → result.status ≡ 3 }
     ensures cut_short { result.status ≡ 3 → IsCutShort result (S.left source.old) (S.left source.new) (K.held out.old) (K.held out.new) }
     ensures write_fault_only { result.status ≡ 4 → Rose (K.faults out.old) (K.faults out.new) }
+    ensures broken_off { result.status ≡ 4 → IfSome (S.left source.old) (λ bytes.
+        IsBrokenOff (cells_read (asked (words_of words.now)) bytes) result (K.held out.old) (K.held out.new)) }
     ensures write_fault_when { K.faults out.old < K.faults out.new → result.status ≡ 4 }
+    ensures left_off { result.status ≡ 5 → IfSome (S.left source.old) (λ bytes.
+        IsLeftOff (cells_read (asked (words_of words.now)) bytes) result (K.held out.old) (K.held out.new)) }
     ensures too_long_only { result.status ≡ 6 → HasTaken (input_limit + 1) (S.left source.old) (S.left source.new) }
     ensures too_long_when { IsSome (asked (words_of words.now)) → IsSome (S.left source.old)
         → HasTaken (input_limit + 1) (S.left source.old) (S.left source.new)

@@ -1,6 +1,7 @@
 use Rattle.std.proofs.lemmas.Grind.{common_steps}
 use Rattle.std.proofs.Common.{◌≤◌, ◌+◌, ◌-◌, length, take, drop, arith, ◌∙◌}
-use Rattle.wl_session.proofs.Pieces.{taken_on}
+use Rattle.wl_session.proofs.Pieces.{taken_on, piece_parts}
+use Rattle.wl_session.proofs.Stopping.{stopped_fed}
 use Rattle.wl_session.proofs.Answering.{fed_on, fed_cell, fed_taken, told_of, told_of_none}
 use Rattle.wl_session.proofs.streaming.feed.Goals as goal
 
@@ -28,3 +29,12 @@ feed-fed-requires g c =
     let taken = fed_taken _ _ _ _ _ _ _ _ _ so_far.fed in
     let lengths : length (take c.loop-at.at c.args.piece.now) + length (take (length c.args.piece.now - c.loop-at.at) (drop c.loop-at.at c.args.piece.now)) ≤ length c.args.piece.now = grind (arith, common_steps, so_far.within) in
     omega (arith, taken, lengths, c.requires)
+
+pub returns-in-Err-clause-stopped : goal.returns-in-Err-clause-stopped
+returns-in-Err-clause-stopped g c =
+    let fed = c.feed-fed.ensures in
+    let piece = c.args.piece.now in
+    let at = c.loop-at.at in
+    let used = c.feed-fed.result.used in
+    stopped_fed _ _ _ _ _ _ _ _ _ _ _ _ (take at piece) (take used (take (length piece - at) (drop at piece))) (drop (at + used) piece) piece _ c.loop-at.invariant.fed (told_of _ _ _ fed.told c.if-fed.true) c.in-Err.ensures.stopped
+    (piece_parts piece at used)

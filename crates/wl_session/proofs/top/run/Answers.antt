@@ -1,4 +1,5 @@
-use Rattle.wl_session.proofs.Ending.{played_tells, played_cut_short, played_too_long, too_long_played, read_to_end_played, complete_played, strayed}
+use Rattle.wl_session.proofs.Broken.{played_broken, played_starved, nothing_begun}
+use Rattle.wl_session.proofs.Ending.{played_marked, played_tells, played_cut_short, played_too_long, too_long_played, read_to_end_played, complete_played, strayed}
 use Rattle.wl_session.proofs.top.run.Goals as goal
 
 pub returns-clause-transcript : goal.returns-clause-transcript
@@ -23,3 +24,15 @@ returns-clause-stray g c = λ tells. strayed _ _ _ _ _ _ _ _ c.in-Some.ensures (
 
 pub returns-clause-complete : goal.returns-clause-complete
 returns-clause-complete g c = λ read. complete_played c.play-played.result _ _ _ _ _ _ _ _ _ _ _ _ _ _ c.status_of-status.ensures c.play-played.ensures.answers c.play-played.ensures.blamed
+
+pub returns-clause-broken_off : goal.returns-clause-broken_off
+returns-clause-broken_off g c = played_broken c.play-played.result _ _ _ _ _ _ _ _ _ _ _ c.in-Some.ensures c.new-session.ensures c.status_of-status.ensures c.play-played.ensures.answers
+
+pub returns-clause-left_off : goal.returns-clause-left_off
+returns-clause-left_off g c = played_starved c.play-played.result _ _ _ _ _ _ _ _ _ _ _ c.in-Some.ensures c.new-session.ensures c.status_of-status.ensures c.play-played.ensures.answers
+
+pub returns-in_default-new-clause-left_off : goal.returns-in_default-new-clause-left_off
+returns-in_default-new-clause-left_off g c = λ five. nothing_begun _ _ _ _ c.new-session.ensures
+
+pub returns-clause-marked : goal.returns-clause-marked
+returns-clause-marked g c = played_marked c.play-played.result _ _ _ _ _ _ _ _ _ _ c.status_of-status.ensures c.play-played.ensures.answers

@@ -1,0 +1,181 @@
+-- What a run that broke off leaves, in the words of its contract.
+use Rattle.std.proofs.Common.{◌≡◌, ◌≤◌, ◌<◌, ◌+◌, ◌-◌, ◌++◌, ℕ, Bool, true, false, nat_le, List, [], ◌∷◌, length, take, Option, Some, None, IfSome, Result, Ok, Err, inl, inr, refl, sym, subst, ap, ◌∙◌, arith, append_assoc, append-nil, length-append}
+use Rattle.std.specs.Io.KnownBytes.{Appends, Consumes}
+use Rattle.std.proofs.KnownBytes.{Appends-trans, Appends-nil}
+use Rattle.std.proofs.lemmas.Bool.Decides.{nat_tests}
+use Rattle.std.proofs.lemmas.List.{take-append-le, take_all}
+use Rattle.std.proofs.Math.Seq.{take-append-add}
+use Rattle.wl_scan.specs.Cells.{CellText, PlacedCell, cut, ended, remainder, start, cells}
+use Rattle.wl_scan.proofs.Pieces.{ended_append}
+use Rattle.wl_session.specs.Answers.{Standing, fresh, outcome, shown, standing_after, answers}
+use Rattle.wl_session.specs.Ends.{status_of, IsBrokenOff, IsLeftOff}
+use Rattle.wl_session.specs.Reading.{AllRead}
+use Rattle.wl_session.specs.Sitting.{Sitting, standing}
+use Rattle.wl_session.specs.Stopping.{Answers, Tell, within, at_end, StopsShort}
+use Rattle.wl_session.specs.Streaming.{AnswersAll}
+use Rattle.wl_session.specs.Transcript.{cells_read, texts, input_limit}
+use Rattle.wl_session.specs.declared.streaming.Stop.{Stop}
+use Rattle.wl_session.specs.declared.streaming.Stop.TheVariants.{ReadFault, WriteFault, OutOfMemory, TooLong}
+use Rattle.wl_session.proofs.Answering.{standing_append, all_read_append, texts_append}
+use Rattle.wl_session.proofs.Ending.{short_read, long_read, taken_all}
+
+-- the cells that end within a front of the bytes are a front of the cells that are read
+front_of_short : (name : Option (List ℕ)) (xs ys : List ℕ) → length (xs ++ ys) ≤ input_limit → (others : List CellText) × (cells_read (Some name) (xs ++ ys) ≡ texts (ended start (take input_limit xs)) ++ others)
+front_of_short name xs ys few =
+    let rest = ended (cut start xs) ys ++ remainder (cut start (xs ++ ys)) in
+    let whole : take input_limit xs ≡ xs = take_all input_limit xs (omega (arith, length-append xs ys)) in (
+      texts rest,
+      short_read name (xs ++ ys) few
+          ∙ ap texts (ap (λ (l : List PlacedCell). l ++ remainder (cut start (xs ++ ys))) (ended_append start xs ys) ∙ append_assoc (ended start xs) (ended (cut start xs) ys) (remainder (cut start (xs ++ ys))))
+          ∙ texts_append (ended start xs) rest ∙ ap (λ (l : List ℕ). texts (ended start l) ++ texts rest) (sym whole),
+    )
+
+front_of_long : (name : Option (List ℕ)) (xs ys : List ℕ) → input_limit < length (xs ++ ys) → (others : List CellText) × (cells_read (Some name) (xs ++ ys) ≡ texts (ended start (take input_limit xs)) ++ others)
+front_of_long name xs ys many = by_length (nat_le (length xs) input_limit) refl
+  where
+    by_length : (b : Bool) → nat_le (length xs) input_limit ≡ b → (others : List CellText) × (cells_read (Some name) (xs ++ ys) ≡ texts (ended start (take input_limit xs)) ++ others)
+    by_length true e =
+        let fits : length xs ≤ input_limit = grind (arith, nat_tests) in
+        let k = input_limit - length xs in
+        let limit : input_limit ≡ length xs + k = omega arith in
+        let rest = ended (cut start xs) (take k ys) in (
+          texts rest,
+          long_read name (xs ++ ys) many ∙ ap (λ (n : ℕ). texts (ended start (take n (xs ++ ys)))) limit ∙ ap (λ (l : List ℕ). texts (ended start l)) (take-append-add xs ys k)
+              ∙ ap texts (ended_append start xs (take k ys)) ∙ texts_append (ended start xs) rest ∙ ap (λ (l : List ℕ). texts (ended start l) ++ texts rest) (sym (take_all input_limit xs fits)),
+        )
+    by_length false e =
+        let longer : input_limit ≤ length xs = grind (arith, nat_tests) in
+        ([], long_read name (xs ++ ys) many ∙ ap (λ (l : List ℕ). texts (ended start l)) (take-append-le input_limit xs ys longer) ∙ sym (append-nil (texts (ended start (take input_limit xs)))))
+
+front_of : (name : Option (List ℕ)) (xs ys : List ℕ) → (others : List CellText) × (cells_read (Some name) (xs ++ ys) ≡ texts (ended start (take input_limit xs)) ++ others)
+front_of name xs ys = by_limit (nat_le (length (xs ++ ys)) input_limit) refl
+  where
+    by_limit : (b : Bool) → nat_le (length (xs ++ ys)) input_limit ≡ b → (others : List CellText) × (cells_read (Some name) (xs ++ ys) ≡ texts (ended start (take input_limit xs)) ++ others)
+    by_limit true e = front_of_short name xs ys (grind (arith, nat_tests))
+    by_limit false e = front_of_long name xs ys (grind (arith, nat_tests))
+
+told_front : (name : Option (List ℕ)) (bytes xs : List ℕ) (b : Option (List ℕ)) (told : List CellText) → Consumes (Some bytes) b xs → Tell b xs told → (others : List CellText) × (cells_read (Some name) bytes ≡ told ++ others)
+told_front name bytes xs None told took t = absurd took
+told_front name bytes xs (Some ys) told took (within e) =
+    let (others, is) = front_of name xs ys in (others, ap (cells_read (Some name)) took ∙ is ∙ ap (λ (l : List CellText). l ++ others) (sym e))
+told_front name bytes xs (Some ys) told took (at_end ends few e) =
+    let same : xs ≡ bytes = taken_all bytes xs (Some ys) took ends in
+    ([], short_read name bytes (subst (λ (l : List ℕ). length l ≤ input_limit) same few) ∙ ap (λ (l : List ℕ). texts (cells l)) (sym same) ∙ sym e ∙ sym (append-nil told))
+
+-- a write fault in the middle of a cell
+part_broken : (name : Option (List ℕ)) (bytes : List ℕ) (sitting : Sitting) (b h i : Option (List ℕ)) (m n status : ℕ) → StopsShort WriteFault (Some bytes) b fresh (standing sitting) h i m n
+    → IsBrokenOff (cells_read (Some name) bytes) (record { status = status; session = Some sitting }) h i
+part_broken name bytes sitting b h i m n status x =
+    let y = x.stopped in
+    let done = y.answered in
+    let one = y.breaks.answer in
+    let part = y.breaks.part in
+    let (others, told) = told_front name bytes x.bytes b x.told x.taken x.tells in
+    let last = one.reading ∷ [] in
+    let shows : answers (standing_after fresh done.readings) last ≡ y.breaks.bytes =
+    append-nil (shown (length (standing_after fresh done.readings).history + 1) (outcome one.reading)) ∙ ap (λ (s : Standing). shown (length s.history + 1) (outcome one.reading)) (sym done.standing) ∙ sym one.pending in
+    record {
+      begun = y.before ++ y.last ∷ [];
+      others = y.behind ++ others;
+      all = told ∙ ap (λ (l : List CellText). l ++ others) y.all ∙ append_assoc y.before (y.last ∷ y.behind) others ∙ sym (append_assoc y.before (y.last ∷ []) (y.behind ++ others));
+      whole = done.readings;
+      broken = last;
+      one = omega arith;
+      reads = all_read_append y.before (y.last ∷ []) done.readings last done.reads (one.reads, tt);
+      front = part.front;
+      rest = part.rest;
+      of_broken = shows ∙ part.whole;
+      out = Appends-trans h y.written i (answers fresh done.readings) part.front done.written part.written;
+      history = ap (λ (s : Standing). s.history) (one.standing ∙ ap (λ (s : Standing). standing_after s last) done.standing ∙ sym (standing_append fresh done.readings last));
+    }
+
+-- or of the flush
+all_broken : (name : Option (List ℕ)) (bytes : List ℕ) (sitting : Sitting) (b h i : Option (List ℕ)) (m n status : ℕ) → AnswersAll (Some bytes) b fresh (standing sitting) h i m n
+    → IsBrokenOff (cells_read (Some name) bytes) (record { status = status; session = Some sitting }) h i
+all_broken name bytes sitting b h i m n status x =
+    let done = x.answered in
+    let (others, told) = told_front name bytes x.bytes b (texts (cells x.bytes)) x.taken (at_end x.at_end x.few refl) in
+    record {
+      begun = texts (cells x.bytes);
+      others = others;
+      all = told;
+      whole = done.readings;
+      broken = [];
+      one = omega arith;
+      reads = subst (AllRead (texts (cells x.bytes))) (sym (append-nil done.readings)) done.reads;
+      front = [];
+      rest = [];
+      of_broken = refl;
+      out = subst (Appends h i) (sym (append-nil (answers fresh done.readings))) done.written;
+      history = ap (λ (s : Standing). s.history) (done.standing ∙ ap (standing_after fresh) (sym (append-nil done.readings)));
+    }
+
+-- memory ran out
+left_off : (name : Option (List ℕ)) (bytes : List ℕ) (sitting : Sitting) (b h i : Option (List ℕ)) (m n status : ℕ) → StopsShort OutOfMemory (Some bytes) b fresh (standing sitting) h i m n
+    → IsLeftOff (cells_read (Some name) bytes) (record { status = status; session = Some sitting }) h i
+left_off name bytes sitting b h i m n status x =
+    let y = x.stopped in
+    let done = y.answered in
+    let (others, told) = told_front name bytes x.bytes b x.told x.taken x.tells in
+    record {
+      answered = y.before;
+      others = y.last ∷ (y.behind ++ others);
+      all = told ∙ ap (λ (l : List CellText). l ++ others) y.all ∙ append_assoc y.before (y.last ∷ y.behind) others;
+      readings = done.readings;
+      reads = done.reads;
+      out = subst (λ (o : Option (List ℕ)). Appends h o (answers fresh done.readings)) (sym y.breaks.unwritten) done.written;
+      history = y.breaks.history ∙ ap (λ (s : Standing). s.history) done.standing;
+    }
+
+not_four : (refused : Bool) → status_of (Ok tt) refused ≡ 4 → ⊥
+not_four true e = omega arith
+not_four false e = omega arith
+
+not_five : (refused : Bool) → status_of (Ok tt) refused ≡ 5 → ⊥
+not_five true e = omega arith
+not_five false e = omega arith
+
+played_of_bytes : (r : Result (Unit {0}) Stop) (name : Option (List ℕ)) (bytes : List ℕ) (sitting : Sitting) (b h i : Option (List ℕ)) (m n status : ℕ) → status ≡ status_of r sitting.refused → Answers r (Some bytes) b fresh (standing sitting) h i m n → status ≡ 4
+    → IsBrokenOff (cells_read (Some name) bytes) (record { status = status; session = Some sitting }) h i
+played_of_bytes (Ok done) name bytes sitting b h i m n status is answers four = absurd (not_four sitting.refused (sym is ∙ four))
+played_of_bytes (Err ReadFault) name bytes sitting b h i m n status is answers four = absurd (omega arith)
+played_of_bytes (Err OutOfMemory) name bytes sitting b h i m n status is answers four = absurd (omega arith)
+played_of_bytes (Err TooLong) name bytes sitting b h i m n status is answers four = absurd (omega arith)
+played_of_bytes (Err WriteFault) name bytes sitting b h i m n status is (inl x) four = part_broken name bytes sitting b h i m n status x
+played_of_bytes (Err WriteFault) name bytes sitting b h i m n status is (inr x) four = all_broken name bytes sitting b h i m n status x
+
+starved_of_bytes : (r : Result (Unit {0}) Stop) (name : Option (List ℕ)) (bytes : List ℕ) (sitting : Sitting) (b h i : Option (List ℕ)) (m n status : ℕ) → status ≡ status_of r sitting.refused → Answers r (Some bytes) b fresh (standing sitting) h i m n → status ≡ 5
+    → IsLeftOff (cells_read (Some name) bytes) (record { status = status; session = Some sitting }) h i
+starved_of_bytes (Ok done) name bytes sitting b h i m n status is answers five = absurd (not_five sitting.refused (sym is ∙ five))
+starved_of_bytes (Err ReadFault) name bytes sitting b h i m n status is answers five = absurd (omega arith)
+starved_of_bytes (Err WriteFault) name bytes sitting b h i m n status is answers five = absurd (omega arith)
+starved_of_bytes (Err TooLong) name bytes sitting b h i m n status is answers five = absurd (omega arith)
+starved_of_bytes (Err OutOfMemory) name bytes sitting b h i m n status is answers five = left_off name bytes sitting b h i m n status answers
+
+-- the same of a source that may not tell its bytes, for the words that were read
+pub played_broken : (r : Result (Unit {0}) Stop) (asked : Option (Option (List ℕ))) (name : Option (List ℕ)) (sitting : Sitting) (a b h i : Option (List ℕ)) (s : Standing) (m n status : ℕ) → Some name ≡ asked → s ≡ fresh → status ≡ status_of r sitting.refused
+    → Answers r a b s (standing sitting) h i m n → status ≡ 4 → IfSome a (λ bytes. IsBrokenOff (cells_read asked bytes) (record { status = status; session = Some sitting }) h i)
+played_broken r asked name sitting None b h i s m n status read new is answers four = tt
+played_broken r asked name sitting (Some bytes) b h i s m n status read new is answers four =
+    subst (λ (w : Option (Option (List ℕ))). IsBrokenOff (cells_read w bytes) (record { status = status; session = Some sitting }) h i) read
+    (played_of_bytes r name bytes sitting b h i m n status is (subst (λ (t : Standing). Answers r (Some bytes) b t (standing sitting) h i m n) new answers) four)
+
+pub played_starved : (r : Result (Unit {0}) Stop) (asked : Option (Option (List ℕ))) (name : Option (List ℕ)) (sitting : Sitting) (a b h i : Option (List ℕ)) (s : Standing) (m n status : ℕ) → Some name ≡ asked → s ≡ fresh → status ≡ status_of r sitting.refused
+    → Answers r a b s (standing sitting) h i m n → status ≡ 5 → IfSome a (λ bytes. IsLeftOff (cells_read asked bytes) (record { status = status; session = Some sitting }) h i)
+played_starved r asked name sitting None b h i s m n status read new is answers five = tt
+played_starved r asked name sitting (Some bytes) b h i s m n status read new is answers five =
+    subst (λ (w : Option (Option (List ℕ))). IsLeftOff (cells_read w bytes) (record { status = status; session = Some sitting }) h i) read
+    (starved_of_bytes r name bytes sitting b h i m n status is (subst (λ (t : Standing). Answers r (Some bytes) b t (standing sitting) h i m n) new answers) five)
+
+-- memory ran out before a cell was begun
+pub nothing_begun : (asked : Option (Option (List ℕ))) (sitting : Sitting) (a h : Option (List ℕ)) → standing sitting ≡ fresh → IfSome a (λ bytes. IsLeftOff (cells_read asked bytes) (record { status = 5; session = Some sitting }) h h)
+nothing_begun asked sitting None h new = tt
+nothing_begun asked sitting (Some bytes) h new = record {
+  answered = [];
+  others = cells_read asked bytes;
+  all = refl;
+  readings = [];
+  reads = tt;
+  out = Appends-nil h;
+  history = ap (λ (s : Standing). s.history) new;
+}
