@@ -44,8 +44,8 @@ pub record IsCutShort (end : Ended) (left left' held held' : Option (List ℕ)) 
   pub out : Appends held held' (answers fresh readings)
   pub history : history_of end.session ≡ (standing_after fresh readings).history
 
--- Of these cells some were begun. Those before the last one of these have all their bytes written and it has a front of its
--- own; the history is theirs.
+-- Of these cells some were begun. All bytes of the whole ones were written, and of the broken one, if there is one, a front;
+-- the history is that of both.
 pub record IsBrokenOff (cells : List CellText) (end : Ended) (held held' : Option (List ℕ)) : Type 0 where
   pub begun : List CellText
   pub others : List CellText
@@ -60,7 +60,7 @@ pub record IsBrokenOff (cells : List CellText) (end : Ended) (held held' : Optio
   pub out : Appends held held' (answers fresh whole ++ front)
   pub history : history_of end.session ≡ (standing_after fresh (whole ++ broken)).history
 
--- of these cells some were answered whole, and the history is theirs
+-- of these cells some were answered, their bytes were written and no others, and the history is theirs
 pub record IsLeftOff (cells : List CellText) (end : Ended) (held held' : Option (List ℕ)) : Type 0 where
   pub answered : List CellText
   pub others : List CellText

@@ -107,17 +107,19 @@ pub fn run<S: Source, K: Sink, E: Sink, L: Ledger>(
     ensures marked { result.status ≤ 1 → IfSome (S.left source.old) (λ bytes. length work.new ≡ length work.old + length (cells bytes)) }
     ensures flushed { result.status ≤ 1 → IsSome (K.held out.old) → K.flushed out.new ≡ Some true }
 
+    // After a failure it is that of the first cells.
+    ensures cut_short { result.status ≡ 3 → IsCutShort result (S.left source.old) (S.left source.new) (K.held out.old) (K.held out.new) }
+    ensures broken_off { result.status ≡ 4 → IfSome (S.left source.old) (λ bytes.
+        IsBrokenOff (cells_read (asked (words_of words.now)) bytes) result (K.held out.old) (K.held out.new)) }
+    ensures left_off { result.status ≡ 5 → IfSome (S.left source.old) (λ bytes.
+        IsLeftOff (cells_read (asked (words_of words.now)) bytes) result (K.held out.old) (K.held out.new)) }
+
     // When each status comes.
     ensures usage { (result.status ≡ 2) ↔ IsNone (asked (words_of words.now)) }
     ensures read_fault_only { result.status ≡ 3 → Rose (S.faults source.old) (S.faults source.new) }
     ensures read_fault_when { S.faults source.old < S.faults source.new → result.status ≡ 3 }
-    ensures cut_short { result.status ≡ 3 → IsCutShort result (S.left source.old) (S.left source.new) (K.held out.old) (K.held out.new) }
     ensures write_fault_only { result.status ≡ 4 → Rose (K.faults out.old) (K.faults out.new) }
-    ensures broken_off { result.status ≡ 4 → IfSome (S.left source.old) (λ bytes.
-        IsBrokenOff (cells_read (asked (words_of words.now)) bytes) result (K.held out.old) (K.held out.new)) }
     ensures write_fault_when { K.faults out.old < K.faults out.new → result.status ≡ 4 }
-    ensures left_off { result.status ≡ 5 → IfSome (S.left source.old) (λ bytes.
-        IsLeftOff (cells_read (asked (words_of words.now)) bytes) result (K.held out.old) (K.held out.new)) }
     ensures too_long_only { result.status ≡ 6 → HasTaken (input_limit + 1) (S.left source.old) (S.left source.new) }
     ensures too_long_when { IsSome (asked (words_of words.now)) → IsSome (S.left source.old)
         → HasTaken (input_limit + 1) (S.left source.old) (S.left source.new)

@@ -62,13 +62,13 @@ Negations =
     IsReadAs (codes "a - 2 b") (named (codes "Plus") (name (codes "a") ∷ named (codes "Times") (number (negsuc 1) ∷ name (codes "b") ∷ []) ∷ []))
     × IsReadAs (codes "a - (2)") (named (codes "Plus") (name (codes "a") ∷ named (codes "Times") (number (negsuc 0) ∷ number (pos 2) ∷ []) ∷ []))
 
--- `g/:a=. x=5`: the ending that is written behind `g/:a=.` has no tree, but this has
+-- `g/:a=. x=5` has a tree, though what it begins with, `g/:a=. x`, is refused below
 abbrev pub DottedTag : Type 0
 DottedTag =
     IsReadAs (codes "g/:a=. x=5")
     (named (codes "TagSet") (name (codes "g") ∷ named (codes "Times") (named (codes "Unset") (name (codes "a") ∷ []) ∷ name (codes "x") ∷ []) ∷ number (pos 5) ∷ []))
 
--- a sign that can't stand there; the beginning of a definition; and one that its ending doesn't make whole
+-- a sign that can't stand there; the beginning of a definition for a tag; and one that has no such end
 abbrev pub Refusals : Type 0
 Refusals = Refused (codes "x ^ ^ 2") (Unexpected 5) × Refused (codes "g /: l") Unclosed × Refused (codes "g/:a=. x") (Unexpected 8)
 

@@ -1,4 +1,5 @@
-//! What an atom stands for.
+//! What an atom stands for. The scan gives each atom the form of its kind, and digits up to 2^127 - 1; anything else, which
+//! no contract rules out here, would be answered as want of memory.
 ghost use Rattle.std.specs.Prelude.{◌≡◌, ◌<◌, ◌^◌, IfOk, SomeIff, pos};
 ghost use Rattle.wl_expr.specs.Stamped.{unstamped};
 ghost use Rattle.wl_expr.specs.Tree as full;

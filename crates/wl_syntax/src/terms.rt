@@ -9,8 +9,8 @@ use std::alloc::Global;
 use wl_expr::Expr;
 use wl_ports::{Memory, is_name};
 
-// A text of at most 131,072 bytes makes no expression past the limits of one, and each of its symbols has a name: these
-// calls are refused by want of memory alone.
+// A text of at most 131,072 bytes should make no expression past the limits of one, and no symbol without a name. Neither
+// is proved here, so both would be answered as want of memory.
 
 pub(crate) fn symbol(alloc: Global, name: &str) -> Result<Expr, Memory>
     ensures { IfOk result (λ e. e ≡ stamped_symbol None name.now) }
