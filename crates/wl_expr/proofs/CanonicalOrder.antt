@@ -9,10 +9,11 @@ use Rattle.std.specs.List.{All}
 use Rattle.std.specs.Ordering.{ordering_then, ordering_reverse}
 use Rattle.std.specs.declared.cmp.Ordering.TheVariants.{Equal}
 use Rattle.wl_exact.specs.Fraction.{IsNumber, of_int}
-use Rattle.wl_expr.specs.Order.{Power, power_of, power_order, factors, last_first, is_number, is_symbol, without_numbers, structural_order, canonical_order}
+use Rattle.wl_expr.specs.Order.{Power, power_of, power_order, factors, last_first, without_numbers, structural_order, canonical_order}
 use Rattle.wl_expr.specs.OrderLaws.{IsTransitive, TellsApart}
 use Rattle.wl_expr.specs.Proper.{IsProper, AreProper}
 use Rattle.wl_expr.specs.Tree.{Tree, Trees, num, text, symbol, node, none, more, to_list}
+use Rattle.wl_expr.specs.Words.{is_number, is_the}
 use Rattle.wl_expr.proofs.Chain.{Chain, total_chain, then_chain, list_chain, list_reverse, then_reverse, then_equal, chain_upto, own_opposite}
 use Rattle.wl_expr.proofs.NumberOrder.{number_chain, number_reverse, one_number}
 use Rattle.wl_expr.proofs.StructuralOrder.{structural_chain, structural_reverse, structural_equal}
@@ -30,7 +31,7 @@ proper_choice false p q s t = t
 proper_power : (t : Tree) → IsProper t → IsProperPower (power_of t)
 proper_power (node h (more b (more (num e) none))) p =
     let whole : Power = record { base = node h (more b (more (num e) none)); exponent = of_int (pos 1) } in
-    proper_choice (is_symbol (codes "Power") h) record { base = b; exponent = e } whole record { base = p.1.0; exponent = p.1.1.0 } record { base = p; exponent = one_number }
+    proper_choice (is_the (codes "Power") h) record { base = b; exponent = e } whole record { base = p.1.0; exponent = p.1.1.0 } record { base = p; exponent = one_number }
 proper_power _ p = record { base = p; exponent = one_number }
 
 power_chain : (p q r : Power) → IsProperPower p → IsProperPower q → IsProperPower r → Chain (power_order p q) (power_order q r) (power_order p r)
@@ -58,7 +59,7 @@ one_proper t p = All-cons IsProper t [] p (All-nil IsProper)
 
 proper_factors : (t : Tree) → IsProper t → All IsProper (factors t)
 proper_factors (node h ts) p =
-    proper_list_choice (is_symbol (codes "Times") h) (without_numbers (to_list ts)) (node h ts ∷ []) (All-filter (λ t. not (is_number t)) IsProper (to_list ts) (all_proper ts p.1)) (one_proper (node h ts) p)
+    proper_list_choice (is_the (codes "Times") h) (without_numbers (to_list ts)) (node h ts ∷ []) (All-filter (λ t. not (is_number t)) IsProper (to_list ts) (all_proper ts p.1)) (one_proper (node h ts) p)
 proper_factors (num n) p = one_proper (num n) p
 proper_factors (text s) p = one_proper (text s) p
 proper_factors (symbol s) p = one_proper (symbol s) p

@@ -3,9 +3,10 @@ use Rattle.std.proofs.Common.{◌≡◌, ◌≢◌, ℕ, ◌+◌, ◌<◌, true,
 use Rattle.std.proofs.lemmas.List.{take_more, map-append, reverse-append}
 use Rattle.std.proofs.lemmas.List.Elements.{filter-append}
 use Rattle.wl_exact.specs.Fraction.{of_int}
-use Rattle.wl_expr.specs.Order.{is_number, without_numbers, power_of, last_first}
+use Rattle.wl_expr.specs.Order.{without_numbers, power_of, last_first}
 use Rattle.wl_expr.specs.Stamped.{Stamped, plain, plains, from_list}
 use Rattle.wl_expr.specs.Tree.{Tree, Trees, num, text, symbol, node, more}
+use Rattle.wl_expr.specs.Words.{is_number}
 
 -- a node of another number of elements than two is its own base
 power_of_more : (h a b c : Tree) (ts : Trees) → power_of (node h (more a (more b (more c ts)))) ≡ record { base = node h (more a (more b (more c ts))); exponent = of_int (pos 1) }

@@ -4,7 +4,6 @@ use Rattle.std.proofs.lemmas.List.Sums.{sum_by-cons}
 use Rattle.std.specs.List.{sum_by}
 use Rattle.wl_expr.specs.Tree as tree
 use Rattle.wl_expr.specs.Tree.{Tree, Trees, node, to_list, weight, weights, depths}
-use Rattle.wl_expr.specs.Fold.{Cases, fold, folds}
 use Rattle.wl_expr.specs.Stamped.{Stamped, from_list, plain, plains, depth}
 
 -- an element is no deeper, and no heavier, than the elements together
@@ -48,11 +47,6 @@ weights_push (tree.more u ts) t = omega (arith, weights_push ts t)
 pub depths_push : (ts : Trees) (t : Tree) → depths (tree.push ts t) ≡ max (depths ts) (tree.depth t)
 depths_push tree.none t = omega arith
 depths_push (tree.more u ts) t = omega (arith, depths_push ts t)
-
--- what a fold gives at the elements, one by one
-pub folds_plains : {A : Type 0} (c : Cases A) (ts : List Stamped) → folds c (plains (from_list ts)) ≡ map (fold c) (map plain ts)
-folds_plains c [] = refl
-folds_plains c (t ∷ ts) = ap (λ us. fold c (plain t) ∷ us) (folds_plains c ts)
 
 -- equal parts make equal trees
 pub equal_parts : (h k : Tree) (ts us : List Stamped) → h ≡ k → map plain ts ≡ map plain us → node h (plains (from_list ts)) ≡ node k (plains (from_list us))

@@ -1,5 +1,5 @@
 -- The canonical order of trees, in which the elements of sums and products stand. As on the manual's page of `Sort`, numbers come before texts and these before the rest, products and powers stand as the terms of a polynomial, and shorter nodes come first; how names are compared and ties are settled is this project's own.
-use Rattle.std.specs.Prelude.{ℕ, Bool, true, false, not, pos, List, [], ◌∷◌, length, map, filter, reverse, codes, bytes_eq, if◌then◌else◌}
+use Rattle.std.specs.Prelude.{ℕ, not, pos, List, [], ◌∷◌, length, map, filter, reverse, codes, if◌then◌else◌}
 use Rattle.std.specs.Cmp.Lexicographic.{slice_cmp}
 use Rattle.std.specs.Ordering.{nat_cmp, ordering_then}
 use Rattle.std.specs.Str.{str_to_ascii_lowercase}
@@ -8,6 +8,7 @@ use Rattle.std.specs.declared.cmp.Ordering.TheVariants.{Less, Equal, Greater}
 use Rattle.wl_exact.specs.Arithmetic.{fraction_cmp}
 use Rattle.wl_exact.specs.Fraction.{Fraction, of_int}
 use Rattle.wl_expr.specs.Tree.{Tree, Trees, num, text, symbol, node, none, more, to_list}
+use Rattle.wl_expr.specs.Words.{is_number, is_the}
 
 -- ---- the structural order: numbers, texts, symbols, nodes
 
@@ -41,21 +42,12 @@ abbrev mutual
 
 -- ---- factors
 
-abbrev pub is_number : Tree → Bool
-is_number (num n) = true
-is_number t = false
-
--- whether the tree is the symbol of this name
-abbrev pub is_symbol : List ℕ → Tree → Bool
-is_symbol x (symbol s) = bytes_eq s x
-is_symbol x t = false
-
 abbrev pub without_numbers : List Tree → List Tree
 without_numbers ts = filter (λ t. not (is_number t)) ts
 
 -- the factors of a product are its elements but for the numbers; any other tree is its own only factor
 abbrev pub factors : Tree → List Tree
-factors (node h ts) = if is_symbol (codes "Times") h then without_numbers (to_list ts) else node h ts ∷ []
+factors (node h ts) = if is_the (codes "Times") h then without_numbers (to_list ts) else node h ts ∷ []
 factors t = t ∷ []
 
 -- a base and its exponent
@@ -66,7 +58,7 @@ pub record Power : Type 0 where
 -- `b^e` with a number e has the base b; any other factor is its own base, and has the exponent 1
 abbrev pub power_of : Tree → Power
 power_of (node h (more b (more (num e) none))) =
-    if is_symbol (codes "Power") h then record { base = b; exponent = e } else record { base = node h (more b (more (num e) none)); exponent = of_int (pos 1) }
+    if is_the (codes "Power") h then record { base = b; exponent = e } else record { base = node h (more b (more (num e) none)); exponent = of_int (pos 1) }
 power_of t = record { base = t; exponent = of_int (pos 1) }
 
 abbrev pub power_order : Power → Power → Ordering

@@ -2,9 +2,10 @@
 ghost use Rattle.std.specs.Prelude.{◌≡◌, ◌<◌, length, map, false, pos, MatchOption, IfSome, [], ◌∷◌};
 ghost use Rattle.std.specs.Cmp.Lexicographic.{slice_cmp};
 ghost use Rattle.wl_exact.specs.Fraction.{of_int};
-ghost use Rattle.wl_expr.specs.Order.{name_order, structural_order, structural_orders, is_number, is_symbol, without_numbers, factors, power_of, power_order, last_first, canonical_order};
+ghost use Rattle.wl_expr.specs.Order.{name_order, structural_order, structural_orders, without_numbers, factors, power_of, power_order, last_first, canonical_order};
 ghost use Rattle.wl_expr.specs.Stamped.{plain, plains, from_list};
 ghost use Rattle.wl_expr.specs.Tree.{node};
+ghost use Rattle.wl_expr.specs.Words.{is_number, is_the};
 
 use crate::expr::Expr;
 use crate::look::Look;
@@ -93,10 +94,10 @@ fn is_number(e: &Expr) -> bool
 
 /// Whether the expression is the symbol of this name.
 fn is_symbol(e: &Expr, name: &str) -> bool
-    ensures { result ≡ is_symbol name.now (plain e.now) }
+    ensures { result ≡ is_the name.now (plain e.now) }
 {
     match e.view() {
-        Look::Symbol(s) => s == name,
+        Look::Symbol(s) => name == s,
         _ => false,
     }
 }
