@@ -27,11 +27,11 @@ plain_look (Text s) = tree.text s.now
 plain_look (Symbol s) = tree.symbol s.now
 plain_look (Node h ts) = tree.node (plain h.now) (plains (from_list ts.now))
 
--- what is proper of this level: the number, the bytes, the name, or the head and each element
+-- what is proper of this level: the number, the text, the name, or the head and each element
 abbrev pub LookIsProper : Look → Type 0
 LookIsProper (Num n) = IsNumber n
 LookIsProper (Text s) = IsUtf8 s.now
-LookIsProper (Symbol s) = IsName s.now
+LookIsProper (Symbol s) = IsUtf8 s.now × IsName s.now
 LookIsProper (Node h ts) = IsProper (plain h.now) × All (λ t. IsProper (plain t)) ts.now
 
 -- each stamped part of the head and the elements of this level is one of these

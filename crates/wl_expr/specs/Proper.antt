@@ -1,4 +1,4 @@
--- Trees that stand for expressions: each number is in lowest terms and in range, each text is UTF-8, and each symbol has a name.
+-- Trees that stand for expressions: each number is in lowest terms and in range, each text is UTF-8, and each symbol has a name in UTF-8.
 use Rattle.std.specs.Prelude.{⊤}
 use Rattle.std.specs.Str.{IsUtf8}
 use Rattle.wl_exact.specs.Fraction.{IsNumber}
@@ -9,7 +9,7 @@ abbrev mutual
   pub IsProper : Tree → Type 0
   IsProper (num n) = IsNumber n
   IsProper (text s) = IsUtf8 s
-  IsProper (symbol s) = IsName s
+  IsProper (symbol s) = IsUtf8 s × IsName s
   IsProper (node h ts) = IsProper h × AreProper ts
 
   pub AreProper : Trees → Type 0

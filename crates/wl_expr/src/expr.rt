@@ -119,7 +119,7 @@ impl Expr {
         ensures ok { IfOk result (λ e. e ≡ symbol None name.now) }
         ensures large { (result ≡ Err ExprFault.Large) ↔ ¬ IsWithinLimits (tree.symbol name.now) }
     {
-        let len = name.len() as u64;
+        let len = name.as_bytes().len() as u64;
         if len >= MAX_WEIGHT {
             return Err(ExprFault::Large);
         }
