@@ -23,14 +23,14 @@ is_ascii_name (c ∷ cs) = begins_ascii_name c && all_continue_ascii_name cs
 begins_below : (c : ℕ) → begins_ascii_name c ≡ true → c < 128
 begins_below c t = grind (arith, nat_tests)
 
-continues_below : (c : ℕ) → continues_ascii_name c ≡ true → c < 128
+pub continues_below : (c : ℕ) → continues_ascii_name c ≡ true → c < 128
 continues_below c t = grind (arith, nat_tests)
 
-left : (a b : Bool) → (a && b) ≡ true → a ≡ true
+pub left : (a b : Bool) → (a && b) ≡ true → a ≡ true
 left true b t = refl
 left false b t = t
 
-right : (a b : Bool) → (a && b) ≡ true → b ≡ true
+pub right : (a b : Bool) → (a && b) ≡ true → b ≡ true
 right true b t = t
 right false b t = cc
 
@@ -43,7 +43,7 @@ no_underscore c t = grind (arith, nat_tests)
 continues : (c : ℕ) → continues_ascii_name c ≡ true → continues_name c ≡ true
 continues c t = ap (λ (b : Bool). (b && not (c == 95)) || (c == 36)) (is_xid_continue-ascii c (continues_below c t)) ∙ no_underscore c t
 
-all_continue : (cs : List ℕ) → all_continue_ascii_name cs ≡ true → all_continue_name cs ≡ true
+pub all_continue : (cs : List ℕ) → all_continue_ascii_name cs ≡ true → all_continue_name cs ≡ true
 all_continue [] t = refl
 all_continue (c ∷ cs) t = ap (λ (b : Bool). b && all_continue_name cs) (continues c (left _ _ t)) ∙ all_continue cs (right _ _ t)
 
@@ -59,6 +59,11 @@ read : (text : List ℕ) → is_ascii_name text ≡ true → chars text ≡ text
 unfolding chars
 read [] t = refl
 read (b ∷ bs) t = one_byte b bs (begins_below b (left _ _ t)) ∙ read_on b bs (right _ _ t)
+
+pub read_all : (text : List ℕ) → all_continue_ascii_name text ≡ true → chars text ≡ text
+unfolding chars
+read_all [] t = refl
+read_all (b ∷ bs) t = one_byte b bs (continues_below b (left _ _ t)) ∙ read_on b bs (right _ _ t)
 
 spells : (text : List ℕ) → is_ascii_name text ≡ true → spells_name text ≡ true
 spells [] t = t

@@ -1,2 +1,5 @@
+-- For use from other crates: which texts are names.
 pub mod AsciiNames
-pub mod Names
+pub mod MadeNames
+-- For this crate's own proofs.
+mod Names
