@@ -4,7 +4,8 @@ use Rattle.std.proofs.lemmas.List.Sums.{sum_by-cons}
 use Rattle.std.specs.List.{sum_by}
 use Rattle.wl_expr.specs.Tree as tree
 use Rattle.wl_expr.specs.Tree.{Tree, Trees, node, to_list, weight, weights, depths}
-use Rattle.wl_expr.specs.Stamped.{Stamped, from_list, plain, plains, depth}
+use Rattle.wl_expr.specs.Stamped.{Stamped, num, text, symbol, node as stamped_node, from_list, plain, plains, depth, with_stamp, without_stamp}
+use Rattle.wl_expr.specs.declared.stamp.Stamp.{Stamp}
 
 -- an element is no deeper, and no heavier, than the elements together
 pub depth_arg : (ts : List Stamped) (i : ℕ) (d : Stamped) → i < length ts → depth (get_or ts i d) ≤ depths (plains (from_list ts))
@@ -51,3 +52,16 @@ depths_push (tree.more u ts) t = omega (arith, depths_push ts t)
 -- equal parts make equal trees
 pub equal_parts : (h k : Tree) (ts us : List Stamped) → h ≡ k → map plain ts ≡ map plain us → node h (plains (from_list ts)) ≡ node k (plains (from_list us))
 equal_parts h k ts us p q = cc (plains_from_list ts, plains_from_list us)
+
+-- a stamp on top changes nothing of the plain tree
+pub plain_with_stamp : (t : Stamped) (p : Stamp) → plain (with_stamp t p) ≡ plain t
+plain_with_stamp (num n) p = refl
+plain_with_stamp (text s) p = refl
+plain_with_stamp (symbol q s) p = refl
+plain_with_stamp (stamped_node q h ts) p = refl
+
+pub plain_without_stamp : (t : Stamped) → plain (without_stamp t) ≡ plain t
+plain_without_stamp (num n) = refl
+plain_without_stamp (text s) = refl
+plain_without_stamp (symbol q s) = refl
+plain_without_stamp (stamped_node q h ts) = refl

@@ -58,6 +58,13 @@ with_stamp (text s) q = text s
 with_stamp (symbol p s) q = symbol (Some q) s
 with_stamp (node p h ts) q = node (Some q) h ts
 
+-- the same with no stamp on top
+abbrev pub without_stamp : Stamped → Stamped
+without_stamp (num n) = num n
+without_stamp (text s) = text s
+without_stamp (symbol p s) = symbol None s
+without_stamp (node p h ts) = node None h ts
+
 -- a tree with no stamp
 abbrev mutual
   pub unstamped : Tree → Stamped

@@ -5,7 +5,7 @@ ghost use Rattle.wl_expr.specs.Look.{looked, plain_look, LookIsProper, LookIsFro
 ghost use Rattle.wl_expr.specs.Order.{canonical_order};
 ghost use Rattle.wl_expr.specs.Passed.{IsFrom};
 ghost use Rattle.wl_expr.specs.Proper.{IsProper};
-ghost use Rattle.wl_expr.specs.Stamped.{Stamped, num, text, symbol, node, from_list, plain, plains, stamp_of, MayCarryStamp, with_stamp};
+ghost use Rattle.wl_expr.specs.Stamped.{Stamped, num, text, symbol, node, from_list, plain, plains, stamp_of, MayCarryStamp, with_stamp, without_stamp};
 ghost use Rattle.wl_expr.specs.Tree as tree;
 ghost use Rattle.wl_expr.specs.Tree.{IsWithinLimits};
 ghost use Rattle.wl_ports.specs.Name.{IsName};
@@ -237,6 +237,19 @@ impl Expr {
         let stamp = Rc::new(alloc, stamp)?;
         Ok(Expr {
             stamp: Some(stamp),
+            body: self.body.clone()?,
+        })
+    }
+
+    /// The same tree, which it shares, with no stamp on top and the parts' stamps as they are.
+    #[tactic(auto, using(crate::proofs::Passing::without_stamp_from, crate::proofs::Parts::plain_without_stamp))]
+    pub fn without_stamp(&self) -> Result<Expr, Memory>
+        ensures ok { IfOk result (λ e. e ≡ without_stamp self.now) }
+        ensures plain { IfOk result (λ e. plain e ≡ plain self.now) }
+        ensures passed { IfOk result (λ e. (ms : List Stamped) → IsFrom ms self.now → IsFrom ms e) }
+    {
+        Ok(Expr {
+            stamp: None,
             body: self.body.clone()?,
         })
     }
