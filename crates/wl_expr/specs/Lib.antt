@@ -12,6 +12,7 @@ pub mod Stamped
 pub mod Look
 pub mod Passed
 pub mod Applied
+pub mod Hash
 -- What serves the proofs: how the fields of an expression stand for its tree, and that its parts are less deep.
 pub mod View
 pub mod Falls

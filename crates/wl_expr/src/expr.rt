@@ -1,6 +1,7 @@
 //! The expression: a handle of a shared tree.
 ghost use Rattle.std.specs.Prelude.{◌≡◌, ◌≤◌, ◌↔◌, IsTrue, None, IfOk, option_map, List, ◌+◌, min};
 ghost use Rattle.std.specs.List.{All};
+ghost use Rattle.wl_expr.specs.Hash.{tree_hash};
 ghost use Rattle.wl_expr.specs.Look.{looked, plain_look, LookIsProper, LookIsFrom};
 ghost use Rattle.wl_expr.specs.Order.{canonical_order};
 ghost use Rattle.wl_expr.specs.Passed.{IsFrom};
@@ -11,6 +12,7 @@ ghost use Rattle.wl_expr.specs.Tree.{IsWithinLimits};
 ghost use Rattle.wl_ports.specs.Name.{IsName};
 
 use crate::fault::ExprFault;
+use crate::hash::{node_hash, number_hash, symbol_hash, text_hash};
 use crate::look::Look;
 use crate::order::canonical_order;
 use crate::same::same_tree;
@@ -40,6 +42,7 @@ pub struct Expr {
 struct Body {
     weight: u64,
     depth: u32,
+    hash: u64,
     shape: Shape,
 }
 
@@ -91,6 +94,7 @@ impl Expr {
         let leaf = Body {
             weight: 1,
             depth: 1,
+            hash: number_hash(n),
             shape: Shape::Number(n),
         };
         let body = Rc::new(alloc, leaf)?;
@@ -108,6 +112,7 @@ impl Expr {
         let leaf = Body {
             weight: 1 + len,
             depth: 1,
+            hash: text_hash(s),
             shape: Shape::Text(String::from_str(alloc, s)?),
         };
         let body = Rc::new(alloc, leaf)?;
@@ -126,6 +131,7 @@ impl Expr {
         let leaf = Body {
             weight: 1 + len,
             depth: 1,
+            hash: symbol_hash(name),
             shape: Shape::Symbol(String::from_str(alloc, name)?),
         };
         let body = Rc::new(alloc, leaf)?;
@@ -145,11 +151,13 @@ impl Expr {
         if weight > MAX_WEIGHT || below >= MAX_DEPTH {
             return Err(ExprFault::Large);
         }
+        let hash = node_hash(head, args);
         let head = head.copy()?;
         let args = copy_all(alloc, args)?;
         let node = Body {
             weight,
             depth: 1 + below,
+            hash,
             shape: Shape::Node(head, args),
         };
         let body = Rc::new(alloc, node)?;
@@ -188,6 +196,13 @@ impl Expr {
         ensures fits { IsWithinLimits (plain self.now) }
     {
         self.body.depth
+    }
+
+    /// The hash of the tree, stamps apart.
+    pub(crate) fn tree_hash(&self) -> u64
+        ensures { result ≡ tree_hash (plain self.now) }
+    {
+        self.body.hash
     }
 
     /// Whether the two are one tree, stamps apart. It looks at no more parts than the smaller has.

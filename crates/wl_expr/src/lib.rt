@@ -4,6 +4,7 @@
 mod applied;
 mod expr;
 mod fault;
+mod hash;
 pub mod laws;
 mod look;
 mod order;

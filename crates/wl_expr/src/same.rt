@@ -10,7 +10,7 @@ use crate::look::Look;
 pub fn same_tree(a: &Expr, b: &Expr) -> bool
     ensures { IsTrue result ↔ (plain a.now ≡ plain b.now) }
 {
-    if a.weight() != b.weight() || a.depth() != b.depth() {
+    if a.weight() != b.weight() || a.depth() != b.depth() || a.tree_hash() != b.tree_hash() {
         return false;
     }
     match a.view() {
