@@ -1,5 +1,8 @@
 -- When two nodes are one tree.
-use Rattle.std.proofs.Common.{◌≡◌, ◌↔◌, ◌<◌, ℕ, zero, suc, List, [], ◌∷◌, length, get_or, map, ap, arith}
+use Rattle.std.proofs.Common.{◌≡◌, ◌↔◌, Bool, ◌<◌, ℕ, zero, suc, List, [], ◌∷◌, length, get_or, map, ap, arith}
+use Rattle.std.specs.Bool.{one_answer}
+use Rattle.std.specs.Prelude.{IsTrue}
+use Rattle.wl_expr.specs.Same.{same, same_decides}
 use Rattle.wl_expr.specs.Tree.{Tree, node, to_list}
 use Rattle.wl_expr.specs.Stamped.{Stamped, plain, plains, from_list}
 use Rattle.wl_expr.proofs.Parts.{to_list_plains, equal_parts}
@@ -16,3 +19,7 @@ same_at [] (y ∷ ys) i d e h p = absurd (omega arith)
 same_at (x ∷ xs) [] i d e h p = cc
 same_at (x ∷ xs) (y ∷ ys) zero d e h p = cc
 same_at (x ∷ xs) (y ∷ ys) (suc i) d e h p = same_at xs ys i d e (omega arith) (cc)
+
+-- an answer that is true of one tree alone is what `same` says
+pub same_answer : (r : Bool) (a b : Tree) → IsTrue r ↔ (a ≡ b) → r ≡ same a b
+same_answer r a b e = one_answer r (same a b) (e.0, e.1) (same_decides a b)

@@ -1,9 +1,39 @@
-//! When two expressions are one tree.
+//! When two expressions are one tree. Equality and hash are those of the plain trees, so that expressions are keys of maps whatever stamps they carry.
 ghost use Rattle.std.specs.Prelude.{◌≡◌, ◌↔◌, IsTrue, map};
+ghost use Rattle.std.specs.Cmp.{on_equiv, on_per, partial_equiv_from_equiv};
+ghost use Rattle.std.specs.Hash as fed;
+ghost use Rattle.std.specs.Hash.{on_Alike, same_Alike};
+ghost use Rattle.wl_expr.specs.Hash.{tree_hash};
+ghost use Rattle.wl_expr.specs.Same.{same, same_decides, same_equivalence};
 ghost use Rattle.wl_expr.specs.Stamped.{plain};
 
 use crate::expr::Expr;
 use crate::look::Look;
+use std::hash::{Hash, Hasher};
+
+impl PartialEq for Expr {
+    ghost eq = { λ a b. same (plain a) (plain b) };
+
+    ghost laws = { on_per plain (partial_equiv_from_equiv same_equivalence) };
+
+    fn eq(&self, other: &Expr) -> bool {
+        same_tree(self, other)
+    }
+}
+
+impl Eq for Expr {
+    ghost laws = { on_equiv plain same_equivalence };
+}
+
+impl Hash for Expr {
+    ghost hash_input = { λ e. fed.u64 (tree_hash (plain e)) };
+
+    ghost respects_eq = { (on_Alike plain (same_Alike (λ t. fed.u64 (tree_hash t)) same_decides)).fed };
+
+    fn hash<H: Hasher>(&self, state: &mut H) {
+        state.write_u64(self.tree_hash());
+    }
+}
 
 /// Whether the two are one tree, stamps apart. It looks at no more parts than the smaller has.
 #[cycle(same)]
