@@ -1,6 +1,7 @@
 //! The outside of the kernel: sources and sinks, real and in memory, and the list of counts of its work.
 #![tactic(auto)]
 
+mod buffer;
 mod calls;
 mod memory;
 mod memory_sink;
@@ -13,6 +14,7 @@ mod std_source;
 mod tests;
 mod work;
 
+pub use buffer::put;
 pub use memory::Memory;
 pub use memory_sink::MemorySink;
 pub use memory_source::MemorySource;

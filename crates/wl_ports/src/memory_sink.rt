@@ -1,23 +1,16 @@
 //! A sink in memory.
-ghost use Rattle.std.specs.Prelude.{◌≡◌, ◌+◌, ◌≤◌, ◌++◌, ◌↔◌, true, false, [], length, take, IsErr, IfOk, MatchResult, Some, refl};
+ghost use Rattle.std.specs.Prelude.{◌≡◌, ◌≤◌, ◌↔◌, true, false, [], length, take, IsErr, IfOk, MatchResult, Some, refl};
 ghost use Rattle.wl_ports.specs.Causes.{HasCause};
 ghost use Rattle.wl_ports.specs.Memory.{Kept, WriteFails, FlushFails, kept_failed, kept_written, kept_flushed};
 
+use crate::buffer::put;
 use crate::calls::{after, is_listed};
 use crate::memory::Memory;
 use crate::ports::{Failed, Sink};
 use std::alloc::Global;
 use std::marker::Model;
 
-fn put(buffer: &mut [u8], at: usize, piece: &[u8])
-    requires { at + length piece.now ≤ length buffer.old }
-    ensures { take (at + length piece.now) buffer.new ≡ take at buffer.old ++ piece.now }
-{
-    let end = at + piece.len();
-    buffer[at..end].copy_from_slice(piece);
-}
-
-/// It takes each piece whole, as long as there is room.
+/// A sink in memory. It takes each piece whole, as long as there is room.
 #[derive(Drop)]
 pub struct MemorySink {
     buffer: Vec<u8>,
@@ -44,31 +37,28 @@ impl Model for MemorySink {
 }
 
 impl MemorySink {
+    /// An empty sink with room for so many bytes in all. Its writes and flushes are numbered from 0, and those whose numbers are in `fails` fail.
     pub fn new(alloc: Global, room: usize, fails: &[u64]) -> Result<MemorySink, Memory>
         ensures { IfOk result (λ s. s ≡ record { bytes = []; room = room; fails = fails.now; calls = 0; faults = 0; flushed = false }) }
     {
-        let Ok(buffer) = Vec::from_elem(alloc, 0u8, room) else {
-            return Err(Memory);
-        };
-        let Ok(fails) = fails.to_vec(alloc) else {
-            return Err(Memory);
-        };
         Ok(MemorySink {
-            buffer,
+            buffer: Vec::from_elem(alloc, 0u8, room)?,
             len: 0,
-            fails,
+            fails: fails.to_vec(alloc)?,
             calls: 0,
             faults: 0,
             flushed: false,
         })
     }
 
+    /// The bytes that were written, in order.
     pub fn bytes(&self) -> &[u8]
         ensures { result.now ≡ self.now.bytes }
     {
         &self.buffer[..self.len]
     }
 
+    /// Whether a flush came after the last byte.
     pub fn flushed(&self) -> bool
         ensures { result ≡ self.now.flushed }
     {

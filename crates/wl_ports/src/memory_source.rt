@@ -47,7 +47,7 @@ fn give(rest: &mut Rest, into: &mut [u8]) -> usize
     }
 }
 
-/// It serves one name.
+/// A source in memory. It serves one name.
 #[derive(Drop)]
 pub struct MemorySource {
     name: Option<String>,
@@ -83,6 +83,8 @@ impl Model for MemorySource {
 }
 
 impl MemorySource {
+    /// A source that serves this name, or standard input where there is none, and gives these bytes, at most `piece` of them a read.
+    /// Its opens and reads are numbered from 0, and those whose numbers are in `fails` fail.
     pub fn new(
         alloc: Global,
         name: Option<&str>,
@@ -104,22 +106,13 @@ impl MemorySource {
     {
         let name = match name {
             None => None,
-            Some(text) => match String::from_str(alloc, text) {
-                Ok(text) => Some(text),
-                Err(_) => return Err(Memory),
-            },
-        };
-        let Ok(bytes) = bytes.to_vec(alloc) else {
-            return Err(Memory);
-        };
-        let Ok(fails) = fails.to_vec(alloc) else {
-            return Err(Memory);
+            Some(text) => Some(String::from_str(alloc, text)?),
         };
         Ok(MemorySource {
             name,
-            rest: Rest::Given(bytes, 0),
+            rest: Rest::Given(bytes.to_vec(alloc)?, 0),
             piece,
-            fails,
+            fails: fails.to_vec(alloc)?,
             calls: 0,
             faults: 0,
             hits: 0,
@@ -127,6 +120,7 @@ impl MemorySource {
         })
     }
 
+    /// Standard input that holds `count` times one byte, of which no call fails.
     pub fn repeat(alloc: Global, byte: u8, count: u64) -> Result<MemorySource, Memory>
         ensures { IfOk result (λ s. s ≡ record {
           left = replicate count byte;
@@ -151,12 +145,14 @@ impl MemorySource {
         })
     }
 
+    /// How often the served name was opened, up to the counter's last value.
     pub fn hits(&self) -> u64
         ensures { result ≡ self.now.hits }
     {
         self.hits
     }
 
+    /// How often another name was asked for, up to the counter's last value.
     pub fn strays(&self) -> u64
         ensures { result ≡ self.now.strays }
     {

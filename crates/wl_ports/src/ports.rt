@@ -25,6 +25,7 @@ pub trait Source {
 
     ghost strays: { Self → ℕ };
 
+    /// Opens the named file, or standard input where there is no name.
     fn open(&mut self, name: Option<&str>) -> Result<(), Failed>
         ensures cause { HasCause (faults self.old) (faults self.new) result }
         ensures left { left self.new ≡ left self.old }
@@ -32,6 +33,7 @@ pub trait Source {
         ensures counted { IsSome (left self.old) →
             IsCounted (served self.old) (option_copied name.entry) (hits self.old) (strays self.old) (hits self.new) (strays self.new) result };
 
+    /// The next bytes, as many as were put to the front of the buffer; none at the end.
     fn read(&mut self, into: &mut [u8]) -> Result<usize, Failed>
         ensures cause { HasCause (faults self.old) (faults self.new) result }
         ensures bound { ReadsAtMost result into.new }
@@ -52,6 +54,7 @@ pub trait Sink {
     /// Whether it is flushed, where it tells its bytes.
     ghost flushed: { Self → Option Bool };
 
+    /// How many bytes of the piece's front were taken, at least one of a piece that has any.
     fn write(&mut self, piece: &[u8]) -> Result<usize, Failed>
         ensures cause { HasCause (faults self.old) (faults self.new) result }
         ensures bound { WritesAtMost result piece.now }
@@ -59,6 +62,7 @@ pub trait Sink {
         ensures takes { IfOk result (λ n. 0 < length piece.now → 0 < n) }
         ensures flushed { flushed self.new ≡ flushed_after result (flushed self.old) };
 
+    /// Passes on what was taken.
     fn flush(&mut self) -> Result<(), Failed>
         ensures cause { HasCause (faults self.old) (faults self.new) result }
         ensures bytes { held self.new ≡ held self.old }

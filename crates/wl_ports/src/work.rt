@@ -58,6 +58,7 @@ impl<L> Model for Work<L> {
 }
 
 impl<L: Ledger> Work<L> {
+    /// One count, which is 0.
     pub fn new(ledger: L) -> Work<L>
         ensures { result ≡ 0 ∷ [] }
     {
@@ -67,12 +68,14 @@ impl<L: Ledger> Work<L> {
         }
     }
 
+    /// One more on the last count.
     pub fn tick(&mut self)
         ensures { self.new ≡ add_to_last 1 self.old }
     {
         self.counts = self.counts.ticked();
     }
 
+    /// Begins the next count, at 0.
     pub fn mark(&mut self)
         ensures { self.new ≡ self.old ++ 0 ∷ [] }
     {
