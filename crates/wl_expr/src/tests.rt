@@ -1,14 +1,17 @@
 //! Rows of the public calls.
-ghost use Rattle.std.specs.Prelude.{◌≡◌, IfOk, None};
-ghost use Rattle.wl_expr.specs.Stamped.{symbol};
+ghost use Rattle.std.specs.Prelude.{◌≡◌, Bool, IfOk, None, OnOk, Some};
+ghost use Rattle.indexmap.specs.IndexMap.{get};
+ghost use Rattle.wl_expr.specs.Same.{same};
+ghost use Rattle.wl_expr.specs.Stamped.{plain, symbol};
 
 use crate::{Expr, ExprFault, Look, MAX_DEPTH, MAX_WEIGHT, ReadList, Stamp, copy_all};
+use indexmap::IndexMap;
 use std::alloc::Global;
 use std::cmp::Ordering;
 use std::process::Abort;
 use std::test::Fail;
 use wl_exact::Num;
-use wl_ports::is_name;
+use wl_ports::{Memory, is_name};
 
 fn number(alloc: Global, p: i128, q: i128) -> Result<Expr, Fail> {
     Ok(Expr::num(alloc, Num::ratio(p, q)?)?)
@@ -146,6 +149,57 @@ fn keeps_a_stamp_in_copies_alone(rt: HostRuntime) -> Result<(), Fail> {
         assert_eq!(rt; steps(args.first()), Some(5));
         assert_eq!(rt; first_read(head), Some((7, 2)));
     }
+    Ok(())
+}
+
+/// A symbol with a stamp of so many steps.
+fn stamped(rt: &impl Abort, alloc: Global, name: &str, steps: u64) -> Result<Expr, Fail> {
+    let stamp = Stamp {
+        reads: ReadList::new(alloc),
+        steps,
+        depth: 1,
+        turns: 1,
+    };
+    Ok(symbol(rt, alloc, name)?.with_stamp(alloc, stamp)?)
+}
+
+#[test]
+fn drops_the_stamp_of_the_top_alone(rt: HostRuntime) -> Result<(), Fail> {
+    let head = stamped(&rt, rt.alloc(), "f", 5)?;
+    assert_eq!(rt; steps(Some(&head.without_stamp()?)), None);
+    let node = Expr::node(rt.alloc(), &head, &[])?;
+    if let Look::Node(head, _) = node.without_stamp()?.view() {
+        assert_eq!(rt; steps(Some(head)), Some(5));
+    }
+    assert!(rt; head.without_stamp()? == head);
+    Ok(())
+}
+
+/// Notes the number of an expression.
+fn note(numbers: &mut IndexMap<Expr, u64>, e: Expr, number: u64) -> Result<(), Memory>
+    ensures { OnOk result (get (λ a b. same (plain a) (plain b)) numbers.new e ≡ Some number) }
+{
+    numbers.insert(e, number)?;
+    Ok(())
+}
+
+#[test]
+fn finds_a_key_by_its_plain_tree(rt: HostRuntime) -> Result<(), Fail> {
+    let mut numbers = IndexMap::new(rt.alloc());
+    for k in 0..14u32 {
+        note(&mut numbers, ascending(&rt, rt.alloc(), k)?, k as u64)?;
+    }
+    for k in 0..14u32 {
+        let key = ascending(&rt, rt.alloc(), k)?;
+        assert_eq!(rt; numbers.get(&key).copied(), Some(k as u64));
+    }
+    // The keys `a` and `f[a]` were put in without stamps.
+    let a = stamped(&rt, rt.alloc(), "a", 5)?;
+    assert_eq!(rt; numbers.get(&a).copied(), Some(6));
+    let node = Expr::node(rt.alloc(), &stamped(&rt, rt.alloc(), "f", 7)?, &[a])?;
+    assert_eq!(rt; numbers.get(&node).copied(), Some(12));
+    note(&mut numbers, stamped(&rt, rt.alloc(), "b", 9)?, 20)?;
+    assert_eq!(rt; numbers.len(), 14);
     Ok(())
 }
 
