@@ -1,5 +1,5 @@
--- A list of one, two or three elements, from its length and its places.
-use Rattle.std.proofs.Common.{◌≡◌, List, [], ◌∷◌, length, get_or, arith}
+-- A list of one, two, three or four elements, from its length and its places.
+use Rattle.std.proofs.Common.{◌≡◌, List, [], ◌∷◌, length, get_or, refl, ap, arith}
 
 pub one_item : {X : Type 0} (xs : List X) (a : X) → length xs ≡ 1 → a ≡ get_or xs 0 a → xs ≡ a ∷ []
 one_item [] a l p = absurd (omega arith)
@@ -18,3 +18,22 @@ three_items (x ∷ []) a b c l p q r = absurd (omega arith)
 three_items (x ∷ y ∷ []) a b c l p q r = absurd (omega arith)
 three_items (x ∷ y ∷ z ∷ []) a b c l p q r = cc
 three_items (x ∷ y ∷ z ∷ w ∷ xs) a b c l p q r = absurd (omega arith)
+
+-- ---- the same, with the places themselves
+
+pub one_by_place : {X : Type 0} (xs : List X) (d : X) → length xs ≡ 1 → xs ≡ get_or xs 0 d ∷ []
+one_by_place [] d l = absurd (omega arith)
+one_by_place (x ∷ []) d l = refl
+one_by_place (x ∷ y ∷ xs) d l = absurd (omega arith)
+
+pub two_by_place : {X : Type 0} (xs : List X) (d : X) → length xs ≡ 2 → xs ≡ get_or xs 0 d ∷ get_or xs 1 d ∷ []
+two_by_place [] d l = absurd (omega arith)
+two_by_place (x ∷ xs) d l = ap (λ ys. x ∷ ys) (one_by_place xs d (omega arith))
+
+pub three_by_place : {X : Type 0} (xs : List X) (d : X) → length xs ≡ 3 → xs ≡ get_or xs 0 d ∷ get_or xs 1 d ∷ get_or xs 2 d ∷ []
+three_by_place [] d l = absurd (omega arith)
+three_by_place (x ∷ xs) d l = ap (λ ys. x ∷ ys) (two_by_place xs d (omega arith))
+
+pub four_by_place : {X : Type 0} (xs : List X) (d : X) → length xs ≡ 4 → xs ≡ get_or xs 0 d ∷ get_or xs 1 d ∷ get_or xs 2 d ∷ get_or xs 3 d ∷ []
+four_by_place [] d l = absurd (omega arith)
+four_by_place (x ∷ xs) d l = ap (λ ys. x ∷ ys) (three_by_place xs d (omega arith))

@@ -1,12 +1,16 @@
-pub mod CanonicalOrder
-pub mod Chain
-pub mod Factors
-pub mod Items
-pub mod NumberOrder
+-- For use from other crates: a walk over the elements (Parts, Items), sizes (Sizes, Small), what is handed on (Passing, Properness), one tree or another (SameNodes), the order (CanonicalOrder).
 pub mod Parts
+pub mod Items
+pub mod Sizes
+pub mod Small
 pub mod Passing
 pub mod Properness
 pub mod SameNodes
+pub mod CanonicalOrder
+-- For this crate's own proofs.
+mod Chain
+mod Factors
+mod NumberOrder
 mod Rows
-pub mod Small
-pub mod StructuralOrder
+mod StructuralOrder
+mod WordRows

@@ -1,5 +1,6 @@
 -- The plain trees of a list of elements, and their size against the whole.
-use Rattle.std.proofs.Common.{◌≡◌, ℕ, ◌+◌, max, zero, suc, ◌≤◌, ◌<◌, List, [], ◌∷◌, ◌++◌, length, get_or, map, refl, sym, ◌∙◌, ap, arith}
+use Rattle.std.proofs.Common.{◌≡◌, ℕ, ◌+◌, max, zero, suc, ◌≤◌, ◌<◌, List, [], ◌∷◌, ◌++◌, length, get_or, map, take, drop, refl, sym, ◌∙◌, ap, arith}
+use Rattle.std.proofs.lemmas.List.{drop-map, take-map}
 use Rattle.std.proofs.lemmas.List.Sums.{sum_by-cons}
 use Rattle.std.specs.List.{sum_by}
 use Rattle.wl_expr.specs.Tree as tree
@@ -30,6 +31,23 @@ to_list_plains (t ∷ ts) = ap (λ us. plain t ∷ us) (to_list_plains ts)
 pub length_to_list_plains : (ts : List Stamped) → length (to_list (plains (from_list ts))) ≡ length ts
 length_to_list_plains [] = refl
 length_to_list_plains (t ∷ ts) = ap suc (length_to_list_plains ts)
+
+-- a list behind another, and the front and the back of a list
+pub to_list_plains-append : (ts us : List Stamped) → to_list (plains (from_list (ts ++ us))) ≡ to_list (plains (from_list ts)) ++ to_list (plains (from_list us))
+to_list_plains-append [] us = refl
+to_list_plains-append (t ∷ ts) us = ap (λ vs. plain t ∷ vs) (to_list_plains-append ts us)
+
+pub to_list_plains-take : (n : ℕ) (ts : List Stamped) → to_list (plains (from_list (take n ts))) ≡ take n (map plain ts)
+to_list_plains-take n ts = to_list_plains (take n ts) ∙ sym (take-map plain n ts)
+
+pub to_list_plains-drop : (n : ℕ) (ts : List Stamped) → to_list (plains (from_list (drop n ts))) ≡ drop n (map plain ts)
+to_list_plains-drop n ts = to_list_plains (drop n ts) ∙ sym (drop-map plain n ts)
+
+-- the plain tree of an element
+pub plain_arg : (ts : List Stamped) (i : ℕ) (d : Stamped) → plain (get_or ts i d) ≡ get_or (map plain ts) i (plain d)
+plain_arg [] i d = refl
+plain_arg (t ∷ ts) zero d = refl
+plain_arg (t ∷ ts) (suc i) d = plain_arg ts i d
 
 -- one more at the end
 pub plains_push : (ts : List Stamped) (t : Stamped) → plains (from_list (ts ++ t ∷ [])) ≡ tree.push (plains (from_list ts)) (plain t)

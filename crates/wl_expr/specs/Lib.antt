@@ -1,5 +1,6 @@
 -- The definitions: trees, their size and their order, the words on trees, and what contracts see of an expression with its stamps.
 pub mod Tree
+pub mod Size
 pub mod Proper
 pub mod Words
 pub mod Same

@@ -86,6 +86,7 @@ impl Drop for Expr {
 }
 
 impl Expr {
+    /// The number, without a stamp.
     pub fn num(alloc: Global, n: Num) -> Result<Expr, Memory>
         ensures { IfOk result (λ e. e ≡ num n) }
     {
@@ -101,6 +102,7 @@ impl Expr {
         Ok(Expr { stamp: None, body })
     }
 
+    /// The text, without a stamp: `Large` exactly where it has more than 3,999,999 bytes.
     pub fn text(alloc: Global, s: &str) -> Result<Expr, ExprFault>
         ensures ok { IfOk result (λ e. e ≡ text s.now) }
         ensures large { (result ≡ Err ExprFault.Large) ↔ ¬ IsWithinLimits (tree.text s.now) }
@@ -119,6 +121,7 @@ impl Expr {
         Ok(Expr { stamp: None, body })
     }
 
+    /// The symbol of this name, without a stamp: `Large` exactly where the name has more than 3,999,999 bytes.
     pub fn symbol(alloc: Global, name: &str) -> Result<Expr, ExprFault>
         requires { IsName name.now }
         ensures ok { IfOk result (λ e. e ≡ symbol None name.now) }
@@ -138,7 +141,8 @@ impl Expr {
         Ok(Expr { stamp: None, body })
     }
 
-    /// The node of this head and these elements, which it shares.
+    /// The node of this head and these elements, which it shares, without a stamp on top: `Large` exactly where it would weigh more
+    /// than 4,000,000 or be deeper than 1,000.
     #[tactic(auto, using(crate::proofs::Passing::are_from))]
     pub fn node(alloc: Global, head: &Expr, args: &[Expr]) -> Result<Expr, ExprFault>
         ensures ok { IfOk result (λ e. e ≡ node None head.now (from_list args.now)) }
@@ -215,8 +219,12 @@ impl Expr {
     /// The canonical order, stamps apart: numbers by value, then texts, then the rest by their factors, from the last one
     /// backwards, and then by structure.
     pub fn order(&self, b: &Expr) -> Ordering
-        ensures { result ≡ canonical_order (plain self.now) (plain b.now) }
+        ensures value { result ≡ canonical_order (plain self.now) (plain b.now) }
+        ensures proper { IsProper (plain self.now) }
+        ensures other_proper { IsProper (plain b.now) }
     {
+        // That expressions are proper is a clause of `weight`.
+        let _weights = (self.weight(), b.weight());
         canonical_order(self, b)
     }
 
@@ -263,9 +271,10 @@ impl Expr {
         ensures plain { IfOk result (λ e. plain e ≡ plain self.now) }
         ensures passed { IfOk result (λ e. (ms : List Stamped) → IsFrom ms self.now → IsFrom ms e) }
     {
+        let shared = self.body.clone()?;
         Ok(Expr {
             stamp: None,
-            body: self.body.clone()?,
+            body: shared,
         })
     }
 }

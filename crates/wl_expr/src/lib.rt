@@ -12,7 +12,7 @@ mod same;
 mod stamp;
 
 pub use applied::{Applied, Notice};
-pub use expr::{Expr, MAX_DEPTH, MAX_WEIGHT, copy_all};
+pub use expr::{Expr, copy_all};
 pub use fault::ExprFault;
 pub use look::Look;
 pub use stamp::{ReadList, Stamp};

@@ -20,6 +20,7 @@ impl Model for ReadList {
 }
 
 impl ReadList {
+    /// No read.
     pub fn new(alloc: Global) -> ReadList
         ensures { result ≡ [] }
     {
@@ -28,6 +29,7 @@ impl ReadList {
         }
     }
 
+    /// Puts a read behind the others: the name of this index was read at this version.
     pub fn push(&mut self, index: u64, version: u64) -> Result<(), Memory>
         ensures ok { OnOk result (self.new ≡ self.old ++ (index, version) ∷ []) }
         ensures err { OnErr result (self.new ≡ self.old) }
@@ -36,12 +38,14 @@ impl ReadList {
         Ok(())
     }
 
+    /// How many reads there are.
     pub fn len(&self) -> usize
         ensures { result ≡ length self.now }
     {
         self.items.len()
     }
 
+    /// The k-th read, from 0 on: its name's index and its version.
     pub fn at(&self, k: usize) -> Option<(u64, u64)>
         ensures { result ≡ slice_get self.now k }
     {
@@ -53,7 +57,10 @@ impl ReadList {
 #[derive(Debug, Drop)]
 pub struct Stamp {
     pub reads: ReadList,
+    /// Steps of the budget.
     pub steps: u64,
+    /// The greatest number of evaluations within one another.
     pub depth: u32,
+    /// The most turns of one evaluation.
     pub turns: u32,
 }

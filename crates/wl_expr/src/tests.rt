@@ -4,7 +4,8 @@ ghost use Rattle.indexmap.specs.IndexMap.{get};
 ghost use Rattle.wl_expr.specs.Same.{same};
 ghost use Rattle.wl_expr.specs.Stamped.{plain, symbol};
 
-use crate::{Expr, ExprFault, Look, MAX_DEPTH, MAX_WEIGHT, ReadList, Stamp, copy_all};
+use crate::expr::{MAX_DEPTH, MAX_WEIGHT};
+use crate::{Expr, ExprFault, Look, ReadList, Stamp, copy_all};
 use indexmap::IndexMap;
 use std::alloc::Global;
 use std::cmp::Ordering;
