@@ -1,8 +1,9 @@
--- Worked rows of the words on trees, and that the tests on trees decide what they are tests of.
-use Rattle.std.proofs.Common.{◌≡◌, ◌≤◌, Bool, true, false, List, [], ◌∷◌, refl, pos}
+-- Worked rows of the words on trees, and of the hash: its values are another program's.
+use Rattle.std.proofs.Common.{◌≡◌, ◌≤◌, Bool, true, false, List, [], ◌∷◌, refl, pos, negsuc}
 use Rattle.std.specs.Prelude.{codes, Some, None}
 use Rattle.wl_exact.specs.Fraction.{of_int}
 use Rattle.wl_exact.specs.Span.{Span, next, ended, first, following}
+use Rattle.wl_expr.specs.Hash.{tree_hash}
 use Rattle.wl_expr.specs.Same.{same, first_of_each}
 use Rattle.wl_expr.specs.Sorted.{sorted, is_sorted}
 use Rattle.wl_expr.specs.Spans.{span_of}
@@ -68,3 +69,9 @@ span-up_to = refl
 
 span-no_step : span_of (natural 1 ∷ natural 3 ∷ natural 0 ∷ []) ≡ None
 span-no_step = refl
+
+hash-node : tree_hash (f (x ∷ half ∷ [])) ≡ 0x503A7DB88B05ECFC
+hash-node = refl
+
+hash-negative : tree_hash (num (of_int (negsuc 2))) ≡ 0x831F5791FF2D7BB3
+hash-negative = refl

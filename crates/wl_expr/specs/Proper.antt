@@ -1,5 +1,5 @@
 -- Trees that stand for expressions: each number is in lowest terms and in range, each text is UTF-8, and each symbol has a name in UTF-8.
-use Rattle.std.specs.Prelude.{⊤}
+use Rattle.std.specs.Prelude.{List, [], ◌∷◌, ⊤}
 use Rattle.std.specs.Str.{IsUtf8}
 use Rattle.wl_exact.specs.Fraction.{IsNumber}
 use Rattle.wl_ports.specs.Name.{IsName}
@@ -15,3 +15,7 @@ abbrev mutual
   pub AreProper : Trees → Type 0
   AreProper none = ⊤
   AreProper (more t ts) = IsProper t × AreProper ts
+
+abbrev pub AllProper : List Tree → Type 0
+AllProper [] = ⊤
+AllProper (t ∷ ts) = IsProper t × AllProper ts

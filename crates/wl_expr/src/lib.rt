@@ -15,6 +15,7 @@ pub use applied::{Applied, Notice};
 pub use expr::{Expr, copy_all};
 pub use fault::ExprFault;
 pub use look::Look;
+pub use order::sort;
 pub use stamp::{ReadList, Stamp};
 
 #[cfg(test)]

@@ -1,8 +1,11 @@
-//! The order of expressions by their structure, and the canonical order that is built on it.
-ghost use Rattle.std.specs.Prelude.{◌≡◌, ◌<◌, length, map, false, pos, MatchOption, IfSome, [], ◌∷◌};
+//! The order of expressions by their structure, the canonical order that is built on it, and the sort by it.
+ghost use Rattle.std.specs.Prelude.{◌≡◌, ◌<◌, length, map, false, pos, MatchOption, IfSome, OnOk, OnErr, [], ◌∷◌};
+ghost use Rattle.std.specs.List.Sorted.{IsPermutation};
 ghost use Rattle.std.specs.Cmp.Lexicographic.{slice_cmp};
 ghost use Rattle.wl_exact.specs.Fraction.{of_int};
 ghost use Rattle.wl_expr.specs.Order.{name_order, structural_order, structural_orders, without_numbers, factors, power_of, power_order, last_first, canonical_order};
+ghost use Rattle.wl_expr.specs.Proper.{AllProper};
+ghost use Rattle.wl_expr.specs.Sorted.{sorted};
 ghost use Rattle.wl_expr.specs.Stamped.{plain, plains, from_list};
 ghost use Rattle.wl_expr.specs.Tree.{node};
 ghost use Rattle.wl_expr.specs.Words.{is_number, is_the};
@@ -12,6 +15,7 @@ use crate::look::Look;
 use std::cmp::Ordering;
 use std::slice;
 use wl_exact::Num;
+use wl_ports::Memory;
 
 /// The order of names: by letters whatever their case, and lower case first where these are the same.
 fn name_order(s: &str, t: &str) -> Ordering
@@ -227,4 +231,24 @@ pub fn canonical_order(a: &Expr, b: &Expr) -> Ordering
             }
         },
     }
+}
+
+/// Looks at each expression, and so tells that it is proper.
+fn look_at(args: &[Expr])
+    ensures { AllProper (map plain args.now) }
+{
+    for arg in args {
+        let _weight = arg.weight();
+    }
+}
+
+/// Puts the expressions into the canonical order, stamps apart. Where memory is wanting they stay as they were.
+pub fn sort(args: &mut Vec<Expr>) -> Result<(), Memory>
+    ensures sorted { OnOk result (map plain args.new.items ≡ sorted (map plain args.old.items)) }
+    ensures parts { IsPermutation args.old.items args.new.items }
+    ensures err { OnErr result (args.new.items ≡ args.old.items) }
+{
+    look_at(args.as_slice());
+    args.sort_by(|a, b| a.order(b))?;
+    Ok(())
 }

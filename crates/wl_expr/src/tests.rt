@@ -5,7 +5,7 @@ ghost use Rattle.wl_expr.specs.Same.{same};
 ghost use Rattle.wl_expr.specs.Stamped.{plain, symbol};
 
 use crate::expr::{MAX_DEPTH, MAX_WEIGHT};
-use crate::{Expr, ExprFault, Look, ReadList, Stamp, copy_all};
+use crate::{Expr, ExprFault, Look, ReadList, Stamp, copy_all, sort};
 use indexmap::IndexMap;
 use std::alloc::Global;
 use std::cmp::Ordering;
@@ -68,6 +68,21 @@ fn orders_all_pairs(rt: HostRuntime) -> Result<(), Fail> {
             assert_eq!(rt; a.order(&b), i.cmp(&j), "{i} and {j}");
             assert_eq!(rt; a.same(&b), i == j, "{i} and {j}");
         }
+    }
+    Ok(())
+}
+
+#[test]
+fn sorts_what_stands_backwards(rt: HostRuntime) -> Result<(), Fail> {
+    let mut all = Vec::new(rt.alloc());
+    for k in 0..14u32 {
+        all.push(ascending(&rt, rt.alloc(), 13 - k)?)?;
+    }
+    sort(&mut all)?;
+    let mut k = 0u32;
+    for e in &all {
+        assert!(rt; e.same(&ascending(&rt, rt.alloc(), k)?), "{k}");
+        k = k.saturating_add(1);
     }
     Ok(())
 }

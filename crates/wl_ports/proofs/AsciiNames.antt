@@ -20,7 +20,7 @@ abbrev pub is_ascii_name : List ℕ → Bool
 is_ascii_name [] = false
 is_ascii_name (c ∷ cs) = begins_ascii_name c && all_continue_ascii_name cs
 
-begins_below : (c : ℕ) → begins_ascii_name c ≡ true → c < 128
+pub begins_below : (c : ℕ) → begins_ascii_name c ≡ true → c < 128
 begins_below c t = grind (arith, nat_tests)
 
 pub continues_below : (c : ℕ) → continues_ascii_name c ≡ true → c < 128

@@ -6,12 +6,21 @@ use Rattle.std.specs.Fmt.{digits, digits_onto, digit_glyph}
 use Rattle.std.specs.Prelude.{codes, decimal, if◌then◌else◌}
 use Rattle.std.specs.Str.{IsAscii, IsUtf8}
 use Rattle.wl_ports.specs.Name.{begins_name, continues_name, all_continue_name, spells_name, IsName}
-use Rattle.wl_ports.proofs.AsciiNames.{continues_ascii_name, all_continue_ascii_name, all_continue, read_all, continues_below, left, right}
+use Rattle.wl_ports.proofs.AsciiNames.{is_ascii_name, continues_ascii_name, all_continue_ascii_name, all_continue, ascii_is_name, read_all, begins_below, continues_below, left, right}
 
 all_ascii : (t : List ℕ) → all_continue_ascii_name t ≡ true → IsAscii t
 all_ascii [] h i = omega arith
 all_ascii (c ∷ cs) h zero = continues_below c (left _ _ h)
 all_ascii (c ∷ cs) h (suc i) = all_ascii cs (right _ _ h) i
+
+-- a name of ASCII is a text and a name
+pub ascii_name : (s : List ℕ) → is_ascii_name s ≡ true → IsUtf8 s × IsName s
+ascii_name s h = (IsUtf8-from_ascii s (ascii s h), ascii_is_name s h)
+  where
+    ascii : (t : List ℕ) → is_ascii_name t ≡ true → IsAscii t
+    ascii [] h i = omega arith
+    ascii (c ∷ cs) h zero = begins_below c (left _ _ h)
+    ascii (c ∷ cs) h (suc i) = all_ascii cs (right _ _ h) i
 
 all_continue-append : (cs ds : List ℕ) → all_continue_name cs ≡ true → all_continue_name ds ≡ true → all_continue_name (cs ++ ds) ≡ true
 all_continue-append [] ds p q = q
