@@ -1,14 +1,14 @@
 -- The first byte of a text decides which rows are not empty.
-use Rattle.std.proofs.Common.{inl, inr, ◌≡◌, ◌==◌, ℕ, ◌+◌, ◌-◌, ◌≤◌, ◌<◌, Bool, true, false, ◌&&◌, ◌||◌, cond, ltb, leb, min, max, List, [], ◌∷◌, ◌++◌, length, take, drop, get_or, ap, sym, subst, refl, ◌∙◌, arith, le-ltb, lt-ltb, ne_eqb, Option}
+use Rattle.std.proofs.Common.{inl, inr, ◌≡◌, ◌==◌, ℕ, ◌+◌, ◌-◌, ◌≤◌, ◌<◌, Bool, true, false, ◌&&◌, ◌||◌, cond, ltb, leb, max, List, [], ◌∷◌, ◌++◌, length, take, drop, get_or, ap, sym, subst, refl, ◌∙◌, arith, le-ltb, lt-ltb, ne_eqb, Option}
 use Rattle.std.specs.Str.{IsUtf8}
 use Rattle.std.specs.Char.{is_ascii_alphabetic}
 use Rattle.std.proofs.lemmas.Str.{chars_past_char, encode_ascii}
-use Rattle.std.proofs.lemmas.Bool.{cases_lt, cond_both, cond-true, cond-false, agree_below_at, agree_below, or_parts, and_from, le-leb, and_parts, leb-true, true≢false}
+use Rattle.std.proofs.lemmas.Bool.{cases_lt, cond_both, cond-true, cond-false, agree_below_at, agree_below, or_parts, and_from, le-leb, and_parts, eqb-true, leb-true, true≢false}
 use Rattle.unicode_ident.proofs.IdentLemmas.{is_xid_start-ascii}
 use Rattle.unicode_ident.proofs.Computing.{unicode_ident}
 use Rattle.wl_ports.specs.Name.{begins_name}
 use Rattle.wl_scan.specs.Characters.{is_digit}
-use Rattle.wl_scan.specs.Lengths.{digits_length, spelled_length, name_length, tail_length, blanks_length, pattern_length, slot_marks, slot_length, percents_length, out_length, is_quote, text_length, beyond, comment_rest, comment_length, blank_length, signs, begins_with, longest_sign, sign_length}
+use Rattle.wl_scan.specs.Lengths.{digits_length, letters_length, is_based, number_length, marks_length, spelled_length, name_length, tail_length, blanks_length, pattern_length, slot_marks, slot_length, percents_length, out_length, is_quote, text_length, beyond, comment_rest, comment_length, blank_length, signs, begins_with, longest_sign, sign_length}
 use Rattle.wl_scan.specs.Tokens.{longest, rows, chosen, lexed, is_fraction, token_found, is_comment, commented, found}
 use Rattle.wl_scan.specs.Scanning.{word_or_sign}
 use Rattle.wl_scan.specs.declared.token.Kind.{Kind}
@@ -68,13 +68,19 @@ only_text t some =
 no_digits : (b : ℕ) (bs : List ℕ) → is_digit b ≡ false → digits_length (b ∷ bs) ≡ 0
 no_digits b bs none = cond-false (is_digit b) _ _ none
 
+no_number : (b : ℕ) (bs : List ℕ) → is_digit b ≡ false → number_length (b ∷ bs) ≡ 0
+no_number b bs none =
+    let text = b ∷ bs in
+    ap (λ (n : ℕ). cond (n == 0) 0 (cond (is_based text) (n + 2 + letters_length (drop (n + 2) text)) n)) (no_digits b bs none)
+
 no_name : (b : ℕ) (bs : List ℕ) → IsUtf8 (b ∷ bs) → b < 128 → begins_name b ≡ false → name_length (b ∷ bs) ≡ 0
 no_name b bs utf8 ascii none =
     ap (spelled_length true) (chars_past_char (b ∷ bs) bs b utf8 (ap (λ (l : List ℕ). l ++ bs) (sym (encode_ascii b ascii)))) ∙ cond-false (begins_name b) _ _ none
 
 no_blanks : (b : ℕ) (bs : List ℕ) → (b == 95) ≡ false → blanks_length (b ∷ bs) ≡ 0
 no_blanks b bs none =
-    ap (λ (u : ℕ). let n = min 3 u in cond (n == 0) 0 (n + tail_length n (drop n (b ∷ bs)))) (cond-false (b == 95) _ _ none)
+    let marks : marks_length (b ∷ bs) ≡ 0 = cond-false (b == 95) _ _ none in
+    ap (λ (n : ℕ). cond (n == 0) 0 (n + tail_length n (drop n (b ∷ bs)))) marks
 
 no_pattern : (b : ℕ) (bs : List ℕ) → name_length (b ∷ bs) ≡ 0 → (b == 95) ≡ false → pattern_length (b ∷ bs) ≡ 0
 no_pattern b bs no_name none =
@@ -199,7 +205,7 @@ pattern_or_sign n p g text more =
     ]
 
 -- the rows by their lengths
-rows_are : (text : List ℕ) (d n p s o t g : ℕ) → digits_length text ≡ d → name_length text ≡ n → pattern_length text ≡ p → slot_length text ≡ s → out_length text ≡ o
+rows_are : (text : List ℕ) (d n p s o t g : ℕ) → number_length text ≡ d → name_length text ≡ n → pattern_length text ≡ p → slot_length text ≡ s → out_length text ≡ o
     → text_length text ≡ t → sign_length text ≡ g → rows text ≡ table d n p s o t g
 unfolding rows
 rows_are text d n p s o t g ed en ep es eo et eg = cc
@@ -215,7 +221,7 @@ pub record BeginsWordOrSign (text : List ℕ) : Type 0 where
 word_rows : (text : List ℕ) (p : ℕ) → BeginsWordOrSign text → pattern_length text ≡ p → rows text ≡ table 0 (name_length text) p 0 0 0 (sign_length text)
 word_rows [] p begins pattern = absurd (omega (arith, begins.some))
 word_rows (b ∷ bs) p begins pattern =
-    rows_are (b ∷ bs) 0 (name_length (b ∷ bs)) p 0 0 0 (sign_length (b ∷ bs)) (no_digits b bs begins.digit) refl pattern (no_slot b bs (ne_eqb b 35 begins.slot))
+    rows_are (b ∷ bs) 0 (name_length (b ∷ bs)) p 0 0 0 (sign_length (b ∷ bs)) (no_number b bs begins.digit) refl pattern (no_slot b bs (ne_eqb b 35 begins.slot))
     (no_out b bs (ne_eqb b 37 begins.out)) (no_text b bs (ne_eqb b 34 begins.quote)) refl
 
 no_quote_first : (text : List ℕ) → BeginsWordOrSign text → is_quote text ≡ false
@@ -254,17 +260,24 @@ digit_is_not k b table digit = digit_elsewhere (λ c. c == k) b table digit
 some_digits : (b : ℕ) (bs : List ℕ) → is_digit b ≡ true → 0 < digits_length (b ∷ bs)
 some_digits b bs digit = omega (arith, cond-true (is_digit b) (1 + digits_length bs) 0 digit)
 
+some_number : (b : ℕ) (bs : List ℕ) → is_digit b ≡ true → 0 < number_length (b ∷ bs)
+some_number b bs digit =
+    let n = digits_length (b ∷ bs) in
+    let some = some_digits b bs digit in
+    cond_both (n == 0) 0 _ (λ (k : ℕ). 0 < k) (λ none. absurd (omega (arith, some, eqb-true n 0 none)))
+    (λ _. cond_both (is_based (b ∷ bs)) (n + 2 + letters_length (drop (n + 2) (b ∷ bs))) n (λ (k : ℕ). 0 < k) (λ _. omega arith) (λ _. some))
+
 pub number_found : (text : List ℕ) → IsUtf8 text → 0 < length text → is_digit (get_or text 0 0) ≡ true → is_fraction text ≡ false
-    → lexed Number (digits_length text) text ≡ token_found text
+    → lexed Number (number_length text) text ≡ token_found text
 number_found [] utf8 some digit whole = absurd (omega (arith, some))
 number_found (b ∷ bs) utf8 some digit whole =
     let text = b ∷ bs in
     let name = no_name b bs utf8 (digit_below b digit) (digit_begins_no_name b digit) in
-    let all : rows text ≡ table (digits_length text) 0 0 0 0 0 0 =
-    rows_are text (digits_length text) 0 0 0 0 0 0 refl name (no_pattern b bs name (digit_is_not 95 b refl digit)) (no_slot b bs (digit_is_not 35 b refl digit))
+    let all : rows text ≡ table (number_length text) 0 0 0 0 0 0 =
+    rows_are text (number_length text) 0 0 0 0 0 0 refl name (no_pattern b bs name (digit_is_not 95 b refl digit)) (no_slot b bs (digit_is_not 35 b refl digit))
     (no_out b bs (digit_is_not 37 b refl digit)) (no_text b bs (digit_is_not 34 b refl digit)) (no_sign_digit b bs digit) in
     sym (cond-false (is_fraction text) _ _ whole ∙ ap (λ (list : List (Kind × ℕ)). chosen (longest list) text) all
-    ∙ ap (λ (row : Kind × ℕ). chosen row text) (only_number (digits_length text)) ∙ some_row Number (digits_length text) text (some_digits b bs digit))
+    ∙ ap (λ (row : Kind × ℕ). chosen row text) (only_number (number_length text)) ∙ some_row Number (number_length text) text (some_number b bs digit))
 
 -- `#`, `%` and `"` begin no name
 

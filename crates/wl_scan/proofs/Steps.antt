@@ -1,26 +1,27 @@
 -- How far what is found reaches: within the text, and to a place where what is left is UTF-8 again.
-use Rattle.std.proofs.Common.{◌≡◌, ◌==◌, ℕ, suc, ◌+◌, ◌≤◌, ◌<◌, Bool, true, false, not, ◌&&◌, cond, ltb, leb, min, max, List, [], ◌∷◌, ◌++◌, length, drop, get_or, ap, sym, subst, refl, ◌∙◌, arith, inl, inr, Option, None, Some}
+use Rattle.std.proofs.Common.{◌≡◌, ◌==◌, ℕ, suc, ◌+◌, ◌≤◌, ◌<◌, Bool, true, false, not, ◌&&◌, cond, ltb, leb, max, List, [], ◌∷◌, ◌++◌, length, take, drop, codes, get_or, ap, sym, subst, refl, ◌∙◌, arith, inl, inr, Option, None, Some}
 use Rattle.std.specs.List.{prefix_len, list_all}
 use Rattle.std.specs.Option.{unwrap_or}
 use Rattle.std.specs.Char.{encode_utf8, len_utf8}
 use Rattle.std.specs.Str.{chars, IsUtf8, all_scalars, encode_utf8_all, IsCharBoundary}
 use Rattle.std.proofs.lemmas.Str.{IsUtf8-drop, IsUtf8-nil, IsCharBoundary-after_ascii, IsCharBoundary-from_drop, IsCharBoundary-from_rest, chars-encodes, length-encode}
 use Rattle.std.proofs.Math.Seq.{drop-append-add}
-use Rattle.std.proofs.lemmas.List.{length-append, length-drop, drop-drop, get_or-drop}
+use Rattle.std.proofs.lemmas.List.{length-append, length-drop, length-take, drop-drop, get_or-drop}
 use Rattle.std.proofs.lemmas.Bool.Decides.{nat_tests}
 use Rattle.std.proofs.lemmas.Bool.{true≢false, false≢true, and_right, eqb-false, cond_both, cases_Bool, cases_lt, eqb-true, and_parts, leb-true, ltb-true, cond-true, cond-false}
-use Rattle.wl_scan.specs.Characters.{is_blank, is_digit}
-use Rattle.wl_scan.specs.Lengths.{beyond, blank_length, digits_length, fits_name, spelled_length, name_length, underscores_length, is_lone_dot, tail_length, blanks_length, pattern_length, slot_marks, slot_length, percents_length, out_length, closed_length, is_quote, text_length, is_escape, bad_escape, signs, begins_with, longest_sign, sign_length, comment_rest, comment_length}
+use Rattle.wl_scan.specs.Characters.{is_blank, is_digit, is_letter_or_digit, digit_value}
+use Rattle.wl_scan.specs.Lengths.{beyond, blank_length, digits_length, letters_length, is_based, number_length, fits_name, spelled_length, name_length, marks_length, is_lone_dot, tail_length, blanks_length, pattern_length, slot_marks, slot_length, percents_length, out_length, closed_length, is_quote, text_length, is_escape, bad_escape, signs, begins_with, longest_sign, sign_length, comment_rest, comment_length}
 use Rattle.wl_scan.specs.Places.{is_code, after_comment, outside, in_comment}
-use Rattle.wl_scan.specs.Tokens.{rows, longest, is_long, is_word, is_fraction, is_comment, string_lexed, lexed, unlexed, chosen, commented, token_found, found}
+use Rattle.wl_scan.specs.Literals.{greatest, base_of, is_base, digits_start, digits_of, fitting_length, bad_digit, digit_fault, literal_value}
+use Rattle.wl_scan.specs.Tokens.{rows, longest, is_long, is_word, is_fraction, is_comment, string_lexed, in_base, lexed, unlexed, chosen, commented, token_found, found}
 use Rattle.wl_scan.specs.declared.place.Region.{Region}
 use Rattle.wl_scan.specs.declared.place.Region.TheVariants.{Code, Opening, Quoted, Escape, Comment, CommentOpening, CommentClosing}
 use Rattle.wl_scan.specs.declared.token.Kind.{Kind}
 use Rattle.wl_scan.specs.declared.token.Kind.TheVariants.{Number, Name, Pattern, Slot, Out, Text, Sign}
-use Rattle.wl_scan.specs.declared.token.ScanKind.TheVariants.{Real, LongNumber, BadChar, OpenString}
+use Rattle.wl_scan.specs.declared.token.ScanKind.TheVariants.{Real, LongNumber, BadChar, OpenString, Base}
 use Rattle.wl_scan.specs.declared.found.Found.{Found}
 use Rattle.wl_scan.specs.declared.found.Found.TheVariants.{Gap, Lexed, Fault}
-use Rattle.wl_scan.proofs.Boundaries.{past_ascii, past_prefix, prefix_within}
+use Rattle.wl_scan.proofs.Boundaries.{past_ascii, past_prefix, prefix_within, marks_within}
 
 pub record Reaches (text : List ℕ) (n : ℕ) : Type 0 where
   pub within : n ≤ length text
@@ -56,6 +57,9 @@ is_blank-ascii b blank = grind (arith, nat_tests)
 
 is_digit-ascii : (b : ℕ) → is_digit b ≡ true → b < 128
 is_digit-ascii b digit = omega (arith, leb-true b 57 (and_parts (leb 48 b) (leb b 57) digit).1)
+
+is_letter_or_digit-ascii : (b : ℕ) → is_letter_or_digit b ≡ true → b < 128
+is_letter_or_digit-ascii b fits = grind (arith, nat_tests)
 
 pub blank_reaches : (text : List ℕ) → IsUtf8 text → Reaches text (blank_length text)
 blank_reaches text utf8 = prefix_reaches is_blank is_blank-ascii (blank_length text) text utf8 (omega arith)
@@ -102,8 +106,8 @@ is_underscore-ascii b is95 = omega (arith, eqb-true b 95 is95)
 
 blanks_reach : (text : List ℕ) → IsUtf8 text → Reaches text (blanks_length text)
 blanks_reach text utf8 =
-    let n = min 3 (underscores_length text) in
-    let marks = prefix_reaches (λ b. b == 95) is_underscore-ascii n text utf8 (omega arith) in
+    let n = marks_length text in
+    let marks = prefix_reaches (λ b. b == 95) is_underscore-ascii n text utf8 (marks_within text) in
     cond_both (n == 0) 0 (n + tail_length n (drop n text)) (Reaches text) (λ _. none_reaches text utf8)
     (λ _. on_reaches text n (tail_length n (drop n text)) marks (tail_reaches n (drop n text) marks.utf8))
 
@@ -270,6 +274,48 @@ signs_reach (sign ∷ more) text ascii utf8 =
 sign_reaches : (text : List ℕ) → IsUtf8 text → Reaches text (sign_length text)
 sign_reaches text utf8 = signs_reach signs text refl utf8
 
+-- numbers
+
+number_reaches : (text : List ℕ) → IsUtf8 text → Reaches text (number_length text)
+number_reaches text utf8 =
+    let n = digits_length text in
+    let digits = digits_reach text utf8 in
+    cond_both (n == 0) 0 _ (Reaches text) (λ _. none_reaches text utf8)
+    (λ _. cond_both (is_based text) (n + 2 + letters_length (drop (n + 2) text)) n (Reaches text)
+    (λ based.
+    let behind = on_reaches text n 2 digits (begins_reach (codes "^^") (drop n text) refl digits.utf8 based) in
+    on_reaches text (n + 2) (letters_length (drop (n + 2) text)) behind
+    (prefix_reaches is_letter_or_digit is_letter_or_digit-ascii (letters_length (drop (n + 2) text)) (drop (n + 2) text) behind.utf8 (omega arith)))
+    (λ _. digits))
+
+pub begins_within : (sign text : List ℕ) → begins_with text sign ≡ true → length sign ≤ length text
+begins_within [] text begins = omega arith
+begins_within (s ∷ sign) [] begins = absurd (false≢true begins)
+begins_within (s ∷ sign) (b ∷ bs) begins = omega (arith, begins_within sign bs (and_parts (b == s) (begins_with bs sign) begins).1)
+
+start_within : (literal : List ℕ) → digits_start literal ≤ length literal
+start_within literal =
+    let n = digits_length literal in
+    cond_both (is_based literal) (n + 2) 0 (λ (k : ℕ). k ≤ length literal)
+    (λ based. omega (arith, begins_within (codes "^^") (drop n literal) based, length-drop n literal, prefix_within is_digit literal)) (λ _. omega arith)
+
+beyond_some : (m k : ℕ) (o : Option ℕ) → beyond m o ≡ Some k → (j : ℕ) × (o ≡ Some j) × (k ≡ m + j)
+beyond_some m k None e = absurd (cc)
+beyond_some m k (Some j) e = let is : m + j ≡ k = cc in (j, refl, sym is)
+
+bad_digit_within : (base : ℕ) (digits : List ℕ) (k : ℕ) → bad_digit base digits ≡ Some k → k ≤ length digits
+bad_digit_within base digits k =
+    let n = fitting_length base digits in
+    cond_both (ltb 0 n && (n == length digits)) None (Some n) (λ o. o ≡ Some k → k ≤ length digits)
+    (λ _ e. absurd (cc))
+    (λ _ e. let is : n ≡ k = cc in omega (arith, is, prefix_within (λ b. ltb (digit_value b) base) digits))
+
+digit_fault_within : (literal : List ℕ) (k : ℕ) → digit_fault literal ≡ Some k → k ≤ length literal
+digit_fault_within literal k e =
+    let s = digits_start literal in
+    let at = beyond_some s k (bad_digit (base_of literal) (digits_of literal)) e in
+    omega (arith, at.2, bad_digit_within (base_of literal) (digits_of literal) at.0 at.1, length-drop s literal, start_within literal)
+
 -- the longest row
 
 row_reaches : (text : List ℕ) (row : Kind × ℕ) (more : List (Kind × ℕ)) → Reaches text row.1 → Reaches text (longest more).1 → Reaches text (longest (row ∷ more)).1
@@ -290,27 +336,33 @@ longest_reaches text utf8 some =
     let slot = row_reaches text (Slot, slot_length text) outs_row (slot_reaches text utf8) out in
     let pattern = row_reaches text (Pattern, pattern_length text) slots_row (pattern_reaches text utf8) slot in
     let name = row_reaches text (Name, name_length text) patterns_row (name_reaches text utf8) pattern in
-    row_reaches text (Number, digits_length text) names_row (digits_reach text utf8) name
+    row_reaches text (Number, number_length text) names_row (number_reaches text utf8) name
 
 -- what is found lies within the text
 abbrev pub Advances : List ℕ → Found → Type 0
 Advances text (Gap n) = (0 < n) × Reaches text n
 Advances text (Lexed kind n) = (0 < n) × Reaches text n
-Advances text (Fault kind n) = n < length text
+Advances text (Fault kind n) = n ≤ length text
 
 string_advances : (text : List ℕ) (n : ℕ) (o : Option ℕ) → 0 < n → Reaches text n → ((k : ℕ) → o ≡ Some k → k < length (drop 1 text)) → Advances text (string_lexed n o)
 string_advances text n None some reach within = (some, reach)
 string_advances text n (Some k) some reach within = omega (arith, within k refl, length-drop 1 text)
 
+based_advances : (n : ℕ) (text : List ℕ) (o : Option ℕ) → 0 < n → Reaches text n → digit_fault (take n text) ≡ o → Advances text (in_base o n text)
+based_advances n text (Some k) some reach is = omega (arith, digit_fault_within (take n text) k is, length-take n text)
+based_advances n text None some reach is =
+    cond_both (is_lone_dot (drop n text)) (Fault Real 0) _ (Advances text) (λ _. omega arith)
+    (λ _. cond_both (ltb greatest (literal_value (take n text))) (Fault LongNumber 0) (Lexed Number n) (Advances text) (λ _. omega arith) (λ _. (some, reach)))
+
 lexed_advances : (kind : Kind) (n : ℕ) (text : List ℕ) → 0 < n → Reaches text n → 0 < length text → Advances text (lexed kind n text)
 lexed_advances Number n text some reach any =
-    cond_both (is_lone_dot (drop n text)) (Fault Real 0) _ (Advances text) (λ _. any)
-    (λ _. cond_both (is_long text) (Fault LongNumber 0) (Lexed Number n) (Advances text) (λ _. any) (λ _. (some, reach)))
+    cond_both (is_base (base_of (take n text))) (in_base (digit_fault (take n text)) n text) (Fault Base 0) (Advances text)
+    (λ _. based_advances n text (digit_fault (take n text)) some reach refl) (λ _. omega arith)
 lexed_advances Slot n text some reach any =
-    cond_both (is_long (drop (slot_marks text) text)) (Fault LongNumber 0) _ (Advances text) (λ _. any)
-    (λ _. cond_both ((n == 1) && is_word (drop 1 text)) (Fault BadChar 0) (Lexed Slot n) (Advances text) (λ _. any) (λ _. (some, reach)))
+    cond_both (is_long (drop (slot_marks text) text)) (Fault LongNumber 0) _ (Advances text) (λ _. omega arith)
+    (λ _. cond_both ((n == 1) && is_word (drop 1 text)) (Fault BadChar 0) (Lexed Slot n) (Advances text) (λ _. omega arith) (λ _. (some, reach)))
 lexed_advances Out n text some reach any =
-    cond_both (is_long (drop 1 text)) (Fault LongNumber 0) (Lexed Out n) (Advances text) (λ _. any) (λ _. (some, reach))
+    cond_both (is_long (drop 1 text)) (Fault LongNumber 0) (Lexed Out n) (Advances text) (λ _. omega arith) (λ _. (some, reach))
 lexed_advances Text n text some reach any = string_advances text n (bad_escape false (drop 1 text)) some reach (bad_within false (drop 1 text))
 lexed_advances Name n text some reach any = (some, reach)
 lexed_advances Pattern n text some reach any = (some, reach)
@@ -319,9 +371,9 @@ lexed_advances Sign n text some reach any = (some, reach)
 token_advances : (text : List ℕ) → IsUtf8 text → 0 < length text → Advances text (token_found text)
 token_advances text utf8 some =
     let row = longest (rows text) in
-    cond_both (is_fraction text) (Fault Real 0) (chosen row text) (Advances text) (λ _. some)
+    cond_both (is_fraction text) (Fault Real 0) (chosen row text) (Advances text) (λ _. omega arith)
     (λ _. cond_both (row.1 == 0) (unlexed text) (lexed row.0 row.1 text) (Advances text)
-    (λ _. cond_both (is_quote text) (Fault OpenString 0) (Fault BadChar 0) (Advances text) (λ _. some) (λ _. some))
+    (λ _. cond_both (is_quote text) (Fault OpenString 0) (Fault BadChar 0) (Advances text) (λ _. omega arith) (λ _. omega arith))
     (λ e. lexed_advances row.0 row.1 text (let not_none : row.1 ≡ 0 → ⊥ = eqb-false row.1 0 e in omega (arith, not_none)) (longest_reaches text utf8 some) some))
 
 comment_advances : (text : List ℕ) (o : Option ℕ) → IsUtf8 text → 2 ≤ length text → ((n : ℕ) → o ≡ Some n → EndsIn 41 (drop 2 text) n) → Advances text (commented (beyond 2 o))

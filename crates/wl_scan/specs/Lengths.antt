@@ -1,12 +1,12 @@
 -- How many bytes each form of token, and each gap between tokens, takes at the start of a text; 0 where none begins there.
 -- The names, patterns and slots are those of the Wolfram Language tutorials on syntax; which forms there are is this project's own choice.
-use Rattle.std.specs.Prelude.{ℕ, ◌+◌, Bool, true, false, not, ◌&&◌, ◌==◌, nat_lt, min, max, if◌then◌else◌, Option, None, Some, List, [], ◌∷◌, length, drop, map, codes}
+use Rattle.std.specs.Prelude.{ℕ, ◌+◌, Bool, true, false, not, ◌&&◌, ◌==◌, nat_lt, max, if◌then◌else◌, Option, None, Some, List, [], ◌∷◌, length, take, drop, map, codes}
 use Rattle.std.specs.Char.{len_utf8}
 use Rattle.std.specs.Str.{chars, byte}
 use Rattle.std.specs.Option.{unwrap_or}
 use Rattle.std.specs.List.{list_any, prefix_len}
 use Rattle.wl_ports.specs.Name.{begins_name, continues_name}
-use Rattle.wl_scan.specs.Characters.{is_blank, is_digit}
+use Rattle.wl_scan.specs.Characters.{is_blank, is_digit, is_letter_or_digit}
 use Rattle.wl_scan.specs.Places.{in_comment, is_code}
 use Rattle.wl_scan.specs.declared.place.Region.{Region}
 use Rattle.wl_scan.specs.declared.place.Region.TheVariants.{Comment}
@@ -21,10 +21,29 @@ beyond n (Some k) = Some (n + k)
 abbrev pub blank_length : List ℕ → ℕ
 blank_length text = prefix_len is_blank text
 
--- numbers
+-- numbers: digits, or the digits of a base and at once `^^` and letters and digits
+
+abbrev pub begins_with : List ℕ → List ℕ → Bool
+begins_with text [] = true
+begins_with [] (s ∷ sign) = false
+begins_with (b ∷ bs) (s ∷ sign) = (b == s) && begins_with bs sign
 
 abbrev pub digits_length : List ℕ → ℕ
 digits_length text = prefix_len is_digit text
+
+abbrev pub letters_length : List ℕ → ℕ
+letters_length text = prefix_len is_letter_or_digit text
+
+-- whether `^^` stands right behind the digits that the text begins with
+abbrev pub is_based : List ℕ → Bool
+is_based text = begins_with (drop (digits_length text) text) (codes "^^")
+
+abbrev pub number_length : List ℕ → ℕ
+number_length text =
+    let n = digits_length text in
+    if n == 0 then 0
+    else (if is_based text then n + 2 + letters_length (drop (n + 2) text)
+    else n)
 
 -- names, over the characters of the text
 
@@ -42,8 +61,9 @@ name_length text = spelled_length true (chars text)
 
 -- patterns: a name or none, one to three `_`, and a name or none. Behind one `_` alone, a `.` that no further `.` follows belongs to it
 
-abbrev pub underscores_length : List ℕ → ℕ
-underscores_length text = prefix_len (λ b. b == byte "_") text
+-- up to three `_`
+abbrev pub marks_length : List ℕ → ℕ
+marks_length text = prefix_len (λ b. b == byte "_") (take 3 text)
 
 -- a `.` that no further `.` follows
 abbrev pub is_lone_dot : List ℕ → Bool
@@ -57,7 +77,7 @@ tail_length n text = if nat_lt 0 (name_length text) then name_length text else (
 
 -- the marks and what follows them
 abbrev pub blanks_length : List ℕ → ℕ
-blanks_length text = let n = min 3 (underscores_length text) in if n == 0 then 0 else n + tail_length n (drop n text)
+blanks_length text = let n = marks_length text in if n == 0 then 0 else n + tail_length n (drop n text)
 
 abbrev pub pattern_length : List ℕ → ℕ
 pattern_length text = let n = blanks_length (drop (name_length text) text) in if n == 0 then 0 else name_length text + n
@@ -116,11 +136,6 @@ signs =
     map codes ("(" ∷ ")" ∷ "[" ∷ "]" ∷ "{" ∷ "}" ∷ "," ∷ "::" ∷ "?" ∷ "++" ∷ "--" ∷ "@" ∷ "/@" ∷ "@@" ∷ "@@@" ∷ "!" ∷ "!!" ∷ "<>" ∷ "^" ∷ "-" ∷ "/" ∷ "*" ∷ "+"
     ∷ "==" ∷ "!=" ∷ "<" ∷ "<=" ∷ ">" ∷ ">=" ∷ "===" ∷ "=!=" ∷ "&&" ∷ "||" ∷ ".." ∷ "..." ∷ "|" ∷ ":" ∷ "~~" ∷ "/;" ∷ "->" ∷ ":>" ∷ "/." ∷ "//." ∷ "+=" ∷ "-=" ∷ "*=" ∷ "/="
     ∷ "&" ∷ "//" ∷ "=" ∷ ":=" ∷ "^=" ∷ "^:=" ∷ "/:" ∷ "=." ∷ ";" ∷ ";;" ∷ [])
-
-abbrev pub begins_with : List ℕ → List ℕ → Bool
-begins_with text [] = true
-begins_with [] (s ∷ sign) = false
-begins_with (b ∷ bs) (s ∷ sign) = (b == s) && begins_with bs sign
 
 -- the length of the longest of these signs that begin the text
 abbrev pub longest_sign : List (List ℕ) → List ℕ → ℕ

@@ -30,4 +30,4 @@ abbrev pub Comes : List ℕ → ℕ → Next → Type 0
 Comes text start next.End = to_come text start ≡ nothing
 Comes text start (next.Token place kind n) =
     (to_come text start ≡ token_before (record { kind = kind; text = take n (drop place text); at = place + 1 }) (to_come text (place + n))) × IsPart text place n
-Comes text start (next.Fault kind place) = (to_come text start ≡ fault_at kind (place + 1)) × (place < length text)
+Comes text start (next.Fault kind place) = (to_come text start ≡ fault_at kind (place + 1)) × (place ≤ length text)

@@ -1,11 +1,12 @@
 -- The tokens of a text: the longest at each place, up to the end or the first fault. The forms are this project's own choice of the language's.
-use Rattle.std.specs.Prelude.{ℕ, zero, suc, ◌+◌, ◌-◌, ◌*◌, ◌^◌, Bool, false, ◌&&◌, ◌||◌, ◌==◌, nat_lt, if◌then◌else◌, Option, None, Some, List, [], ◌∷◌, take, drop, codes}
+use Rattle.std.specs.Prelude.{ℕ, zero, suc, ◌+◌, ◌-◌, Bool, false, ◌&&◌, ◌||◌, ◌==◌, nat_lt, if◌then◌else◌, Option, None, Some, List, [], ◌∷◌, take, drop, codes}
 use Rattle.std.specs.Str.{byte}
-use Rattle.wl_scan.specs.Lengths.{blank_length, digits_length, name_length, pattern_length, is_lone_dot, slot_marks, slot_length, out_length, text_length, is_quote, bad_escape, sign_length, begins_with, comment_length}
+use Rattle.wl_scan.specs.Lengths.{blank_length, digits_length, number_length, name_length, pattern_length, is_lone_dot, slot_marks, slot_length, out_length, text_length, is_quote, bad_escape, sign_length, begins_with, comment_length}
+use Rattle.wl_scan.specs.Literals.{decimal_value, greatest, base_of, is_base, digit_fault, literal_value}
 use Rattle.wl_scan.specs.declared.token.Kind.{Kind}
 use Rattle.wl_scan.specs.declared.token.Kind.TheVariants.{Number, Name, Pattern, Slot, Out, Text, Sign}
 use Rattle.wl_scan.specs.declared.token.ScanKind.{ScanKind}
-use Rattle.wl_scan.specs.declared.token.ScanKind.TheVariants.{Real, LongNumber, BadChar, BadEscape, OpenString, OpenComment}
+use Rattle.wl_scan.specs.declared.token.ScanKind.TheVariants.{Real, LongNumber, BadChar, BadEscape, OpenString, OpenComment, Base, Digit}
 use Rattle.wl_scan.specs.declared.token.ScanFault.{ScanFault}
 use Rattle.wl_scan.specs.declared.found.Found.{Found}
 use Rattle.wl_scan.specs.declared.found.Found.TheVariants.{Gap, Lexed, Fault}
@@ -21,18 +22,6 @@ pub record Scanned : Type 0 where
   pub tokens : List Lexeme
   pub fault : Option ScanFault
 
--- the number that digits write
-abbrev pub decimal_value_after : ℕ → List ℕ → ℕ
-decimal_value_after n [] = n
-decimal_value_after n (b ∷ bs) = decimal_value_after (n * 10 + (b - 48)) bs
-
-abbrev pub decimal_value : List ℕ → ℕ
-decimal_value digits = decimal_value_after 0 digits
-
--- the greatest number that a digit text may write
-abbrev pub greatest : ℕ
-greatest = 2 ^ 127 - 1
-
 -- the digits that these bytes begin with write a number past the greatest
 abbrev pub is_long : List ℕ → Bool
 is_long text = nat_lt greatest (decimal_value (take (digits_length text) text))
@@ -40,7 +29,7 @@ is_long text = nat_lt greatest (decimal_value (take (digits_length text) text))
 -- each form of token with its length here
 unfoldable pub rows : List ℕ → List (Kind × ℕ)
 rows text =
-    (Number, digits_length text) ∷ (Name, name_length text) ∷ (Pattern, pattern_length text) ∷ (Slot, slot_length text) ∷ (Out, out_length text) ∷ (Text, text_length text)
+    (Number, number_length text) ∷ (Name, name_length text) ∷ (Pattern, pattern_length text) ∷ (Slot, slot_length text) ∷ (Out, out_length text) ∷ (Text, text_length text)
     ∷ (Sign, sign_length text) ∷ []
 
 -- the longest of them
@@ -66,11 +55,20 @@ abbrev pub string_lexed : ℕ → Option ℕ → Found
 string_lexed n None = Lexed Text n
 string_lexed n (Some k) = Fault BadEscape (1 + k)
 
+-- a number of n bytes, of which one may be at fault: of several faults the digit comes first, then the point, then the size
+abbrev pub in_base : Option ℕ → ℕ → List ℕ → Found
+in_base (Some k) n text = Fault Digit k
+in_base None n text =
+    if is_lone_dot (drop n text) then Fault Real 0
+    else (if nat_lt greatest (literal_value (take n text)) then Fault LongNumber 0 else Lexed Number n)
+
+-- and the base before all of them
+abbrev pub number_lexed : ℕ → List ℕ → Found
+number_lexed n text = if is_base (base_of (take n text)) then in_base (digit_fault (take n text)) n text else Fault Base 0
+
 -- a token of n bytes, unless it is at fault
 abbrev pub lexed : Kind → ℕ → List ℕ → Found
-lexed Number n text =
-    if is_lone_dot (drop n text) then Fault Real 0
-    else (if is_long text then Fault LongNumber 0 else Lexed Number n)
+lexed Number n text = number_lexed n text
 lexed Slot n text =
     if is_long (drop (slot_marks text) text) then Fault LongNumber 0
     else (if (n == 1) && is_word (drop 1 text) then Fault BadChar 0 else Lexed Slot n)

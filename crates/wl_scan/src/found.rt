@@ -1,15 +1,15 @@
 //! What stands at a place where a token is looked for.
 ghost use Rattle.std.specs.Prelude.{◌≡◌, ◌≤◌, ◌<◌, ◌^◌, true, false, ◌≢◌, length, drop, slice_index, Some};
 ghost use Rattle.wl_scan.specs.Characters.{is_digit};
-ghost use Rattle.wl_scan.specs.Lengths.{blank_length, digits_length, name_length, slot_length, out_length, text_length, is_quote};
+ghost use Rattle.wl_scan.specs.Lengths.{blank_length, digits_length, number_length, name_length, slot_length, out_length, text_length, is_quote};
 ghost use Rattle.wl_scan.specs.Tokens.{is_comment, is_fraction, is_word, lexed, longest, rows, chosen, token_found, found};
 ghost use Rattle.wl_scan.specs.Scanning.{word_or_sign};
 
 use crate::lengths::{
     bad_escape, blank_length, blanks_length, closed_length, comment_rest, digits_length,
-    is_lone_dot, is_quote, name_length, out_length, slot_length, slot_marks,
+    is_lone_dot, is_quote, name_length, number_length, out_length, slot_length, slot_marks,
 };
-use crate::numbers::is_long;
+use crate::numbers::{bad_digit, base_of, digits_start, is_long, is_past_greatest};
 use crate::signs::sign_length;
 use crate::token::{Kind, ScanKind};
 
@@ -78,12 +78,20 @@ fn is_fraction(bytes: &[u8]) -> bool
 }
 
 fn number(bytes: &[u8]) -> Found
-    ensures { result ≡ lexed Kind.Number (digits_length bytes.now) bytes.now }
+    ensures { result ≡ lexed Kind.Number (number_length bytes.now) bytes.now }
 {
-    let length = digits_length(bytes);
-    if is_lone_dot(&bytes[length..]) {
+    let length = number_length(bytes);
+    let literal = &bytes[..length];
+    let Some(base) = base_of(literal) else {
+        return Found::Fault(ScanKind::Base, 0);
+    };
+    let start = digits_start(literal);
+    let digits = &literal[start..];
+    if let Some(place) = bad_digit(base, digits) {
+        Found::Fault(ScanKind::Digit, start + place)
+    } else if is_lone_dot(&bytes[length..]) {
         Found::Fault(ScanKind::Real, 0)
-    } else if is_long(bytes) {
+    } else if is_past_greatest(base, digits) {
         Found::Fault(ScanKind::LongNumber, 0)
     } else {
         Found::Lexed(Kind::Number, length)

@@ -1,5 +1,5 @@
 //! Laws over the definitions, each proved as the contract of a function that does nothing.
-ghost use Rattle.wl_scan.specs.Laws.{CellsOfExamples, PiecesTellTheCells, TokensAreParts, TokensHaveNumerals, TokensOfExamples};
+ghost use Rattle.wl_scan.specs.Laws.{CellsOfExamples, LiteralsOfExamples, PiecesTellTheCells, TokensAreParts, TokensHaveForms, TokensOfExamples};
 
 /// The cells don't depend on how the bytes were cut into pieces.
 pub fn pieces_tell_the_cells()
@@ -11,9 +11,9 @@ pub fn tokens_are_parts()
     ensures { TokensAreParts }
 {}
 
-/// The digits of each token write a number up to 2^127 - 1.
-pub fn tokens_have_numerals()
-    ensures { TokensHaveNumerals }
+/// Each token of a text has the form of its kind: its digits write a number up to 2^127 - 1, and its names are names.
+pub fn tokens_have_forms()
+    ensures { TokensHaveForms }
 {}
 
 /// The cells of a few texts.
@@ -24,4 +24,9 @@ pub fn cells_of_examples()
 /// The tokens of a few texts.
 pub fn tokens_of_examples()
     ensures { TokensOfExamples }
+{}
+
+/// The values of a few literals, and the faults of others.
+pub fn literals_of_examples()
+    ensures { LiteralsOfExamples }
 {}

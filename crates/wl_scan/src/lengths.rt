@@ -1,9 +1,9 @@
 //! How many bytes each form of token takes at the start of a text.
-ghost use Rattle.std.specs.Prelude.{◌≡◌, ◌≤◌, ◌<◌, ◌^◌, false, length, IfSome};
+ghost use Rattle.std.specs.Prelude.{◌≡◌, ◌≤◌, ◌<◌, ◌^◌, ◌+◌, false, true, length, IfSome};
 ghost use Rattle.std.specs.Str.{IsCharBoundary};
-ghost use Rattle.wl_scan.specs.Lengths.{blank_length, digits_length, fits_name, name_length, underscores_length, is_lone_dot, tail_length, blanks_length, percents_length, slot_marks, slot_length, out_length, is_quote, closed_length, is_escape, bad_escape, comment_length, comment_rest};
+ghost use Rattle.wl_scan.specs.Lengths.{blank_length, digits_length, letters_length, is_based, number_length, fits_name, name_length, marks_length, is_lone_dot, tail_length, blanks_length, percents_length, slot_marks, slot_length, out_length, is_quote, closed_length, is_escape, bad_escape, comment_length, comment_rest};
 
-use crate::characters::{is_blank, is_digit};
+use crate::characters::{is_blank, is_digit, is_letter_or_digit};
 use crate::place::Region;
 use wl_ports::{begins_name, continues_name};
 
@@ -23,11 +23,48 @@ pub fn digits_length(bytes: &[u8]) -> usize
     bytes.iter().take_while(|byte| is_digit(**byte)).count()
 }
 
-fn underscores_length(bytes: &[u8]) -> usize
-    ensures length { result ≡ underscores_length bytes.now }
+/// How many letters and digits the bytes begin with.
+fn letters_length(bytes: &[u8]) -> usize
+    ensures length { result ≡ letters_length bytes.now }
     ensures within { result ≤ length bytes.now }
 {
-    bytes.iter().take_while(|byte| **byte == b'_').count()
+    bytes
+        .iter()
+        .take_while(|byte| is_letter_or_digit(**byte))
+        .count()
+}
+
+/// Whether `^^` stands right behind the digits that the bytes begin with.
+pub fn is_based(bytes: &[u8]) -> bool
+    ensures based { result ≡ is_based bytes.now }
+    ensures within { result ≡ true → digits_length bytes.now + 2 ≤ length bytes.now }
+{
+    matches!(&bytes[digits_length(bytes)..], [b'^', b'^', ..])
+}
+
+/// The number that the bytes begin with, whatever its digits.
+pub fn number_length(bytes: &[u8]) -> usize
+    ensures length { result ≡ number_length bytes.now }
+    ensures within { result ≤ length bytes.now }
+{
+    let digits = digits_length(bytes);
+    if digits == 0 || !is_based(bytes) {
+        return digits;
+    }
+    digits + 2 + letters_length(&bytes[digits + 2..])
+}
+
+/// How many `_` the bytes begin with, up to three.
+fn marks_length(bytes: &[u8]) -> usize
+    ensures length { result ≡ marks_length bytes.now }
+    ensures within { result ≤ length bytes.now }
+{
+    match bytes {
+        [b'_', b'_', b'_', ..] => 3,
+        [b'_', b'_', ..] => 2,
+        [b'_', ..] => 1,
+        _ => 0,
+    }
 }
 
 fn percents_length(bytes: &[u8]) -> usize
@@ -132,7 +169,7 @@ pub fn blanks_length(text: &str) -> usize
     ensures length { result ≡ blanks_length text.now }
     ensures within { result ≤ length text.now }
 {
-    match underscores_length(text.as_bytes()).min(3) {
+    match marks_length(text.as_bytes()) {
         0 => 0,
         marks => marks + tail_length(marks, &text[marks..]),
     }

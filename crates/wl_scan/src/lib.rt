@@ -15,5 +15,6 @@ mod token;
 mod tokens;
 
 pub use cells::{Cell, Cells, Fed};
+pub use numbers::literal_value;
 pub use token::{Kind, ScanFault, ScanKind, Token};
 pub use tokens::Tokens;

@@ -1,5 +1,5 @@
 //! What the definitions mean: texts with their cells and tokens, worked out by hand and by a second program.
-use crate::{Cell, Cells, Kind, Token, Tokens};
+use crate::{Cell, Cells, Kind, Token, Tokens, literal_value};
 use std::alloc::Global;
 use std::process::Abort;
 use std::test::Fail;
@@ -206,10 +206,23 @@ fn tokens_of_texts(rt: HostRuntime) -> Result<(), Fail> {
         ("a@@@@b", "a @@@ @ b "),
         ("a====b", "a === = b "),
         ("f[ [1] ]", "f [ [ 1 ] ] "),
-        ("2^^1", "2 ^ ^ 1 "),
+        ("16^^ff+2^^101", "16^^ff + 2^^101 "),
+        ("36^^Zz_a", "36^^Zz _a "),
+        ("0016^^0F", "0016^^0F "),
+        ("2^^1..", "2^^1 .. "),
+        ("2^^1^^1", "2^^1 ^ ^ 1 "),
+        ("16 ^^ ff", "16 ^ ^ ff "),
+        ("16^ ^ff", "16 ^ ^ ff "),
+        ("x^^1", "x ^ ^ 1 "),
+        ("#2^^1", "#2 ^ ^ 1 "),
+        ("%2^^1", "%2 ^ ^ 1 "),
         (
             "000170141183460469231731687303715884105727",
             "000170141183460469231731687303715884105727 ",
+        ),
+        (
+            "16^^007fffffffffffffffffffffffffffffff",
+            "16^^007fffffffffffffffffffffffffffffff ",
         ),
     ] {
         let got = scan(&rt, rt.alloc(), text)?;
@@ -260,6 +273,33 @@ fn faults_of_texts(rt: HostRuntime) -> Result<(), Fail> {
             "LongNumber at byte 1",
         ),
         ("170141183460469231731687303715884105728.", "Real at byte 1"),
+        ("37^^1", "Base at byte 1"),
+        ("1^^1", "Base at byte 1"),
+        ("0^^", "Base at byte 1"),
+        ("00^^5", "Base at byte 1"),
+        ("a+37^^9.", "Base at byte 3"),
+        (
+            "340282366920938463463374607431768211472^^1",
+            "Base at byte 1",
+        ),
+        ("8^^78", "Digit at byte 5"),
+        ("2^^102.", "Digit at byte 6"),
+        ("35^^Zz", "Digit at byte 5"),
+        ("2^^", "Digit at byte 4"),
+        ("2^^ 1", "Digit at byte 4"),
+        ("2^^\u{e9}", "Digit at byte 4"),
+        ("3 2^^_", "Digit at byte 6"),
+        ("2^^1.", "Real at byte 1"),
+        ("16^^ff.5", "Real at byte 1"),
+        (
+            "16^^80000000000000000000000000000000",
+            "LongNumber at byte 1",
+        ),
+        (
+            "16^^100000000000000000000000000000000",
+            "LongNumber at byte 1",
+        ),
+        ("16^^80000000000000000000000000000000.", "Real at byte 1"),
     ] {
         let got = scan(&rt, rt.alloc(), text)?;
         assert_eq!(rt; got.as_slice(), want.as_bytes(), "{text}");
@@ -331,4 +371,20 @@ fn tokens_are_held(rt: HostRuntime) {
         )
     );
     assert!(rt; matches!(end, Ok(None)));
+}
+
+#[test]
+fn values_of_literals(rt: HostRuntime) {
+    for (literal, want) in [
+        ("0", 0),
+        ("0120", 120),
+        ("16^^ff", 255),
+        ("2^^101", 5),
+        ("36^^Zz", 1295),
+        ("0016^^0F", 15),
+        ("10^^42", 42),
+        ("16^^7fffffffffffffffffffffffffffffff", i128::MAX as u128),
+    ] {
+        assert_eq!(rt; literal_value(literal), want, "{literal}");
+    }
 }

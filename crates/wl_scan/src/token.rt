@@ -4,7 +4,7 @@ use thiserror::Error;
 /// The forms of a token.
 #[derive(Clone, Copy, PartialEq, Eq, Debug)]
 pub enum Kind {
-    /// Digits.
+    /// Digits, or the digits of a base, `^^` and digits of that base.
     Number,
     /// The name of a symbol.
     Name,
@@ -43,6 +43,10 @@ pub enum ScanKind {
     OpenString,
     /// A comment that isn't closed.
     OpenComment,
+    /// A base before `^^` that isn't from 2 to 36.
+    Base,
+    /// A letter or digit behind `^^` whose value isn't below the base, or none there.
+    Digit,
 }
 
 /// The first fault of a text, and its byte, counted from 1.

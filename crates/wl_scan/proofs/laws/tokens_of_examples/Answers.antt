@@ -16,4 +16,4 @@ unequal = refl
 
 pub returns : goal.returns
 unfolding chars rows scanned_from unicode_ident
-returns c = (refl, refl, refl, refl)
+returns c = (refl, refl, refl, refl, refl, refl)
