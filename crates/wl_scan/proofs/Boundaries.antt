@@ -1,9 +1,10 @@
 -- Where a text may be cut: behind the forms of a token what is left is UTF-8 again.
-use Rattle.std.proofs.Common.{inl, inr, ◌≡◌, ◌==◌, ℕ, zero, suc, ◌+◌, ◌≤◌, ◌<◌, Bool, true, cond, List, [], ◌∷◌, ◌++◌, length, take, drop, ap, sym, ◌∙◌, arith}
+use Rattle.std.proofs.Common.{inl, inr, ◌≡◌, ◌==◌, ℕ, zero, suc, ◌+◌, ◌≤◌, ◌<◌, Bool, true, cond, List, [], ◌∷◌, ◌++◌, take, drop, ap, sym, ◌∙◌, arith}
+use Rattle.std.proofs.lemmas.List.Sums.{prefix_len-le-length}
 use Rattle.std.specs.List.{prefix_len}
 use Rattle.std.specs.Str.{IsUtf8, IsCharBoundary}
 use Rattle.std.proofs.lemmas.Str.{encode_ascii, IsUtf8-past_char, IsCharBoundary-from_drop}
-use Rattle.std.proofs.lemmas.Bool.{cases_Bool, cond_both, cond-true, cond-false, eqb-true}
+use Rattle.std.proofs.lemmas.Bool.{cases_Bool, cond-true, cond-false, eqb-true}
 use Rattle.wl_scan.specs.Lengths.{marks_length}
 
 pub past_ascii : (b : ℕ) (bs : List ℕ) → b < 128 → IsUtf8 (b ∷ bs) → IsUtf8 bs
@@ -23,12 +24,6 @@ past_prefix p ascii (suc n) (b ∷ bs) utf8 within =
           absurd (omega (arith, within, none))
     ]
 
-pub prefix_within : (p : ℕ → Bool) (text : List ℕ) → prefix_len p text ≤ length text
-prefix_within p [] = omega arith
-prefix_within p (b ∷ bs) =
-    let rest = prefix_within p bs in
-    cond_both (p b) (1 + prefix_len p bs) 0 (λ (n : ℕ). n ≤ length (b ∷ bs)) (λ _. omega arith) (λ _. omega arith)
-
 -- a run is no longer in the first n bytes
 prefix_front : (p : ℕ → Bool) (n : ℕ) (text : List ℕ) → prefix_len p (take n text) ≤ prefix_len p text
 prefix_front p zero text = omega arith
@@ -42,7 +37,7 @@ prefix_front p (suc n) (b ∷ bs) =
 
 pub prefix_boundary : (p : ℕ → Bool) (ascii : (b : ℕ) → p b ≡ true → b < 128) (n : ℕ) (text : List ℕ) → IsUtf8 text → n ≤ prefix_len p text → IsCharBoundary text n
 prefix_boundary p ascii n text utf8 within =
-    IsCharBoundary-from_drop text n (omega (arith, within, prefix_within p text)) (past_prefix p ascii n text utf8 within)
+    IsCharBoundary-from_drop text n (omega (arith, within, prefix_len-le-length p text)) (past_prefix p ascii n text utf8 within)
 
 -- behind up to three `_`
 pub marks_within : (text : List ℕ) → marks_length text ≤ prefix_len (λ b. b == 95) text

@@ -1,5 +1,6 @@
 -- Each token has the form of its kind.
 use Rattle.std.proofs.Common.{inl, inr, ◌≡◌, ◌==◌, ℕ, zero, suc, ◌+◌, ◌-◌, ◌^◌, ◌≤◌, ◌<◌, Bool, true, false, ◌&&◌, cond, ltb, List, [], ◌∷◌, length, take, drop, codes, ap, sym, refl, subst, ◌∙◌, arith, Option, None, Some}
+use Rattle.std.proofs.lemmas.List.Sums.{prefix_len-le-length}
 use Rattle.std.specs.List.{All, prefix_len}
 use Rattle.std.specs.Str.{IsUtf8}
 use Rattle.std.proofs.lemmas.List.{drop-take, drop_all, length-drop, length-take-le}
@@ -15,7 +16,6 @@ use Rattle.wl_scan.specs.declared.token.Kind.TheVariants.{Number, Name, Pattern,
 use Rattle.wl_scan.specs.declared.token.ScanKind.TheVariants.{Real, LongNumber, BadChar, OpenString, Base}
 use Rattle.wl_scan.specs.declared.found.Found.{Found}
 use Rattle.wl_scan.specs.declared.found.Found.TheVariants.{Gap, Lexed, Fault}
-use Rattle.wl_scan.proofs.Boundaries.{prefix_within}
 use Rattle.wl_scan.proofs.Steps.{Advances, begins_within, found_advances}
 use Rattle.wl_scan.proofs.Words.{word_taken}
 use Rattle.wl_scan.proofs.Patterns.{pattern_taken}
@@ -37,7 +37,7 @@ prefix_kept p (suc k) (b ∷ bs) within =
 -- they pass by themselves
 prefix_alone : (p : ℕ → Bool) (text : List ℕ) → prefix_len p (take (prefix_len p text) text) ≡ length (take (prefix_len p text) text)
 prefix_alone p text =
-    prefix_kept p (prefix_len p text) text (omega arith) ∙ sym (length-take-le (prefix_len p text) text (prefix_within p text))
+    prefix_kept p (prefix_len p text) text (omega arith) ∙ sym (length-take-le (prefix_len p text) text (prefix_len-le-length p text))
 
 begins_kept : (sign text : List ℕ) (k : ℕ) → length sign ≤ k → begins_with text sign ≡ true → begins_with (take k text) sign ≡ true
 begins_kept [] text k within begins = refl
@@ -184,7 +184,7 @@ out_numeral text n is short one =
       | inr several ↦
           let whole : n ≡ m = is ∙ cond-false (m == 1) (1 + d) m several in
           let alone : percents_length (take n text) ≡ length (take n text) = subst (λ (k : ℕ). percents_length (take k text) ≡ length (take k text)) (sym whole) (prefix_alone _ text) in
-          let size : length (take n text) ≡ n = length-take-le n text (omega (arith, whole, prefix_within (λ b. b == 37) text)) in
+          let size : length (take n text) ≡ n = length-take-le n text (omega (arith, whole, prefix_len-le-length (λ b. b == 37) text)) in
           absurd (eqb-false m 1 several (omega (arith, alone, size, one, whole)))
     ]
 

@@ -4,11 +4,11 @@ use Rattle.std.specs.List.{starts_with, position_or_len, before_first, after_fir
 use Rattle.std.specs.Str.{IsUtf8}
 use Rattle.std.proofs.Math.Seq.{take-append_seam, take-append-add, drop-append-add, take-add, get_or-append_seam}
 use Rattle.std.proofs.lemmas.List.{length-append, length-take, length-replicate, get_or_append_left}
-use Rattle.std.proofs.lemmas.List.Sums.{position_or_len_is}
+use Rattle.std.proofs.lemmas.List.Sums.{position_or_len_is, prefix_len-le-length}
 use Rattle.std.proofs.lemmas.Bool.{cases_Bool, cond_both, cond-true, cond-false, and_parts, eqb-true, eqb-false, ne_eqb, ltb-true, true≢false, false≢true}
 use Rattle.wl_scan.specs.Lengths.{name_length, marks_length, is_lone_dot, tail_length, blanks_length, pattern_length}
 use Rattle.wl_scan.specs.Forms.{IsWord, is_mark, head_of, IsPattern}
-use Rattle.wl_scan.proofs.Boundaries.{past_prefix, prefix_within, marks_within}
+use Rattle.wl_scan.proofs.Boundaries.{past_prefix, marks_within}
 use Rattle.wl_scan.proofs.Steps.{name_reaches}
 use Rattle.wl_scan.proofs.Words.{IsUnmarked, word_taken, word_unmarked}
 
@@ -116,7 +116,7 @@ pattern_parts text m t utf8 some marks tail =
     let k = name_length text in
     let word = take k text in
     let rest = drop k text in
-    let few : m ≤ 3 = omega (arith, marks, prefix_within is_mark (take 3 rest), length-take 3 rest) in
+    let few : m ≤ 3 = omega (arith, marks, prefix_len-le-length is_mark (take 3 rest), length-take 3 rest) in
     let within : m ≤ prefix_len is_mark rest = omega (arith, marks, marks_within rest) in
     let behind = past_prefix is_mark is_mark-ascii m rest (name_reaches text utf8).utf8 within in
     let is_tail : IsTail (take t (drop m rest)) = subst (λ (n : ℕ). IsTail (take n (drop m rest))) (sym tail) (tail_taken m (drop m rest) behind) in

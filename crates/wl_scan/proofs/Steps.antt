@@ -1,5 +1,6 @@
 -- How far what is found reaches: within the text, and to a place where what is left is UTF-8 again.
 use Rattle.std.proofs.Common.{◌≡◌, ◌==◌, ℕ, suc, ◌+◌, ◌≤◌, ◌<◌, Bool, true, false, not, ◌&&◌, cond, ltb, leb, max, List, [], ◌∷◌, ◌++◌, length, take, drop, codes, get_or, ap, sym, subst, refl, ◌∙◌, arith, inl, inr, Option, None, Some}
+use Rattle.std.proofs.lemmas.List.Sums.{prefix_len-le-length}
 use Rattle.std.specs.List.{prefix_len, list_all}
 use Rattle.std.specs.Option.{unwrap_or}
 use Rattle.std.specs.Char.{encode_utf8, len_utf8}
@@ -21,7 +22,7 @@ use Rattle.wl_scan.specs.declared.token.Kind.TheVariants.{Number, Name, Pattern,
 use Rattle.wl_scan.specs.declared.token.ScanKind.TheVariants.{Real, LongNumber, BadChar, OpenString, Base}
 use Rattle.wl_scan.specs.declared.found.Found.{Found}
 use Rattle.wl_scan.specs.declared.found.Found.TheVariants.{Gap, Lexed, Fault}
-use Rattle.wl_scan.proofs.Boundaries.{past_ascii, past_prefix, prefix_within, marks_within}
+use Rattle.wl_scan.proofs.Boundaries.{past_ascii, past_prefix, marks_within}
 
 pub record Reaches (text : List ℕ) (n : ℕ) : Type 0 where
   pub within : n ≤ length text
@@ -41,7 +42,7 @@ on_reaches text m n first second = record {
 
 prefix_reaches : (p : ℕ → Bool) (ascii : (b : ℕ) → p b ≡ true → b < 128) (n : ℕ) (text : List ℕ) → IsUtf8 text → n ≤ prefix_len p text → Reaches text n
 prefix_reaches p ascii n text utf8 within = record {
-  within = omega (arith, within, prefix_within p text);
+  within = omega (arith, within, prefix_len-le-length p text);
   utf8 = past_prefix p ascii n text utf8 within;
 }
 
@@ -297,7 +298,7 @@ start_within : (literal : List ℕ) → digits_start literal ≤ length literal
 start_within literal =
     let n = digits_length literal in
     cond_both (is_based literal) (n + 2) 0 (λ (k : ℕ). k ≤ length literal)
-    (λ based. omega (arith, begins_within (codes "^^") (drop n literal) based, length-drop n literal, prefix_within is_digit literal)) (λ _. omega arith)
+    (λ based. omega (arith, begins_within (codes "^^") (drop n literal) based, length-drop n literal, prefix_len-le-length is_digit literal)) (λ _. omega arith)
 
 beyond_some : (m k : ℕ) (o : Option ℕ) → beyond m o ≡ Some k → (j : ℕ) × (o ≡ Some j) × (k ≡ m + j)
 beyond_some m k None e = absurd (cc)
@@ -308,7 +309,7 @@ bad_digit_within base digits k =
     let n = fitting_length base digits in
     cond_both (ltb 0 n && (n == length digits)) None (Some n) (λ o. o ≡ Some k → k ≤ length digits)
     (λ _ e. absurd (cc))
-    (λ _ e. let is : n ≡ k = cc in omega (arith, is, prefix_within (λ b. ltb (digit_value b) base) digits))
+    (λ _ e. let is : n ≡ k = cc in omega (arith, is, prefix_len-le-length (λ b. ltb (digit_value b) base) digits))
 
 digit_fault_within : (literal : List ℕ) (k : ℕ) → digit_fault literal ≡ Some k → k ≤ length literal
 digit_fault_within literal k e =

@@ -1,5 +1,5 @@
 //! The cutting of bytes into cells, in pieces of any size.
-ghost use Rattle.std.specs.Prelude.{◌≡◌, ◌+◌, ◌≤◌, ◌<◌, ◌^◌, ◌++◌, [], ◌∷◌, true, false, length, take, drop, slice_index, if◌then◌else◌, IsTrue, IfOk, None};
+ghost use Rattle.std.specs.Prelude.{◌≡◌, ◌+◌, ◌≤◌, ◌<◌, ◌^◌, [], ◌∷◌, true, false, length, take, drop, slice_index, if◌then◌else◌, IsTrue, IfOk, None};
 ghost use Rattle.wl_scan.specs.Cells.{IsWithinCell, start, renewed, cut, ended, finished, remainder, text_of, shown, IsWithin};
 ghost use Rattle.wl_scan.specs.Places.{is_end};
 ghost use Rattle.wl_scan.specs.CellText.{cell_text};
@@ -8,7 +8,7 @@ use crate::lengths::blank_length;
 use crate::place::Place;
 use std::alloc::Global;
 use std::marker::Model;
-use wl_ports::Memory;
+use wl_ports::{Memory, put};
 
 /// The greatest number of bytes of a cell that are kept.
 const CELL_LIMIT: usize = 131_072;
@@ -61,14 +61,6 @@ impl Model for Cells {
           is_long = c.is_long;
           told = c.told;
         }) };
-}
-
-fn put(buffer: &mut [u8], at: usize, piece: &[u8])
-    requires { at + length piece.now ≤ length buffer.old }
-    ensures { take (at + length piece.now) buffer.new ≡ take at buffer.old ++ piece.now }
-{
-    let end = at + piece.len();
-    buffer[at..end].copy_from_slice(piece);
 }
 
 impl Cells {
