@@ -3,22 +3,37 @@ use Rattle.std.proofs.Common.{◌≡◌, ◌+◌, ◌++◌, ℕ, List, [], ◌�
 use Rattle.std.specs.Io.KnownBytes.{Appends}
 use Rattle.std.proofs.lemmas.List.{map-append}
 use Rattle.std.proofs.KnownBytes.{Appends-trans, Appends-nil}
-use Rattle.wl_session.specs.Answers.{Standing, IsAnswer, outcome, shown, after, standing_after, answers}
-use Rattle.wl_session.specs.Reading.{Reading, Reads, AllRead}
+use Rattle.wl_session.specs.Answers.{SessionState, IsAnswer, outcome, shown, after, state_after, answers}
+use Rattle.wl_session.specs.Counting.{HasBegun}
+use Rattle.wl_session.specs.Reading.{Reading, IsReading, AllRead}
 use Rattle.wl_session.specs.Transcript.{texts}
 use Rattle.wl_scan.specs.Cells.{Cutting, CellText, PlacedCell, cut, ended}
 use Rattle.wl_session.specs.Streaming.{HasAnswered, HasFed}
 use Rattle.wl_scan.proofs.Pieces.{cut_append, ended_append, taken_cut}
 
-pub standing_append : (s : Standing) (rs qs : List Reading) → standing_after s (rs ++ qs) ≡ standing_after (standing_after s rs) qs
-standing_append s [] qs = refl
-standing_append s (r ∷ rs) qs = standing_append (after s (outcome r)) rs qs
+-- counts
+pub begun_none : (m n : List ℕ) → n ≡ m → HasBegun 0 m n
+begun_none m n same = record { new = []; behind = same ∙ sym (append-nil m); each = refl }
 
-pub answers_append : (s : Standing) (rs qs : List Reading) → answers s (rs ++ qs) ≡ answers s rs ++ answers (standing_after s rs) qs
+pub begun_one : (m n : List ℕ) → n ≡ m ++ 0 ∷ [] → HasBegun 1 m n
+begun_one m n marked = record { new = 0 ∷ []; behind = marked; each = refl }
+
+pub begun_on : (j k l : ℕ) (m n o : List ℕ) → HasBegun j m n → HasBegun k n o → l ≡ j + k → HasBegun l m o
+begun_on j k l m n o so_far more sum = record {
+  new = so_far.new ++ more.new;
+  behind = more.behind ∙ ap (λ (x : List ℕ). x ++ more.new) so_far.behind ∙ append_assoc m so_far.new more.new;
+  each = omega (arith, length-append so_far.new more.new, so_far.each, more.each);
+}
+
+pub state_append : (s : SessionState) (rs qs : List Reading) → state_after s (rs ++ qs) ≡ state_after (state_after s rs) qs
+state_append s [] qs = refl
+state_append s (r ∷ rs) qs = state_append (after s (outcome r)) rs qs
+
+pub answers_append : (s : SessionState) (rs qs : List Reading) → answers s (rs ++ qs) ≡ answers s rs ++ answers (state_after s rs) qs
 answers_append s [] qs = refl
 answers_append s (r ∷ rs) qs =
     let first = shown (length s.history + 1) (outcome r) in
-    ap (λ (l : List ℕ). first ++ l) (answers_append (after s (outcome r)) rs qs) ∙ sym (append_assoc first (answers (after s (outcome r)) rs) (answers (standing_after (after s (outcome r)) rs) qs))
+    ap (λ (l : List ℕ). first ++ l) (answers_append (after s (outcome r)) rs qs) ∙ sym (append_assoc first (answers (after s (outcome r)) rs) (answers (state_after (after s (outcome r)) rs) qs))
 
 pub all_read_append : (cs ds : List CellText) (rs qs : List Reading) → AllRead cs rs → AllRead ds qs → AllRead (cs ++ ds) (rs ++ qs)
 all_read_append [] ds [] qs p q = q
@@ -27,25 +42,25 @@ all_read_append (c ∷ cs) ds [] qs p q = absurd p
 all_read_append (c ∷ cs) ds (r ∷ rs) qs p q = (p.0, all_read_append cs ds rs qs p.1 q)
 
 -- one cell
-pub one_answered : (s s' : Standing) (h h' : Option (List ℕ)) (m m' : ℕ) (c d : CellText) (bytes : List ℕ) → IsAnswer c s s' bytes → c ≡ d → Appends h h' bytes → m' ≡ m + 1 → HasAnswered s s' h h' m m' (d ∷ [])
+pub one_answered : (s s' : SessionState) (h h' : Option (List ℕ)) (m m' : List ℕ) (c d : CellText) (bytes : List ℕ) → IsAnswer c s s' bytes → c ≡ d → Appends h h' bytes → m' ≡ m ++ 0 ∷ [] → HasAnswered s s' h h' m m' (d ∷ [])
 one_answered s s' h h' m m' c d bytes one same wrote marks = record {
   readings = one.reading ∷ [];
-  reads = (subst (λ (x : CellText). Reads x one.reading) same one.reads, tt);
-  standing = one.standing;
+  reads = (subst (λ (x : CellText). IsReading x one.reading) same one.reads, tt);
+  state = one.state;
   written = subst (Appends h h') (one.pending ∙ sym (append-nil (shown (length s.history + 1) (outcome one.reading)))) wrote;
-  marked = marks;
+  begun = begun_one m m' marks;
 }
 
 -- these cells, and then those
-pub answered_on : (s t u : Standing) (h i j : Option (List ℕ)) (m n o : ℕ) (cs ds : List CellText) → HasAnswered s t h i m n cs → HasAnswered t u i j n o ds → HasAnswered s u h j m o (cs ++ ds)
+pub answered_on : (s t u : SessionState) (h i j : Option (List ℕ)) (m n o : List ℕ) (cs ds : List CellText) → HasAnswered s t h i m n cs → HasAnswered t u i j n o ds → HasAnswered s u h j m o (cs ++ ds)
 answered_on s t u h i j m n o cs ds so_far more = record {
   readings = so_far.readings ++ more.readings;
   reads = all_read_append cs ds so_far.readings more.readings so_far.reads more.reads;
-  standing = more.standing ∙ ap (λ (x : Standing). standing_after x more.readings) so_far.standing ∙ sym (standing_append s so_far.readings more.readings);
+  state = more.state ∙ ap (λ (x : SessionState). state_after x more.readings) so_far.state ∙ sym (state_append s so_far.readings more.readings);
   written =
-      subst (Appends h j) (ap (λ (x : Standing). answers s so_far.readings ++ answers x more.readings) so_far.standing ∙ sym (answers_append s so_far.readings more.readings))
+      subst (Appends h j) (ap (λ (x : SessionState). answers s so_far.readings ++ answers x more.readings) so_far.state ∙ sym (answers_append s so_far.readings more.readings))
       (Appends-trans h i j (answers s so_far.readings) (answers t more.readings) so_far.written more.written);
-  marked = omega (arith, so_far.marked, more.marked, length-append cs ds);
+  begun = begun_on (length cs) (length ds) (length (cs ++ ds)) m n o so_far.begun more.begun (length-append cs ds);
 }
 
 pub texts_append : (cs ds : List PlacedCell) → texts (cs ++ ds) ≡ texts cs ++ texts ds
@@ -59,7 +74,7 @@ pub told_of_none : (flag : Bool) (cell : PlacedCell) (cells : List PlacedCell) �
 told_of_none flag cell cells is told = is ∙ ap (λ (b : Bool). if b then cell ∷ [] else []) told
 
 -- further bytes that end no cell
-pub fed_on : (c d e : Cutting) (s t : Standing) (h i : Option (List ℕ)) (m n : ℕ) (xs ys zs : List ℕ) → HasFed c d s t h i m n xs → e ≡ cut d ys → ended d ys ≡ [] → zs ≡ xs ++ ys → HasFed c e s t h i m n zs
+pub fed_on : (c d e : Cutting) (s t : SessionState) (h i : Option (List ℕ)) (m n : List ℕ) (xs ys zs : List ℕ) → HasFed c d s t h i m n xs → e ≡ cut d ys → ended d ys ≡ [] → zs ≡ xs ++ ys → HasFed c e s t h i m n zs
 fed_on c d e s t h i m n xs ys zs so_far next none all =
     subst (HasFed c e s t h i m n) (sym all) (record {
       cutting = next ∙ ap (λ (x : Cutting). cut x ys) so_far.cutting ∙ sym (cut_append c xs ys);
@@ -68,7 +83,7 @@ fed_on c d e s t h i m n xs ys zs so_far next none all =
     })
 
 -- further bytes that end a cell, which is answered
-pub fed_cell : (c d e : Cutting) (s t u : Standing) (h i j : Option (List ℕ)) (m n o : ℕ) (xs ys zs : List ℕ) (cell : PlacedCell) → HasFed c d s t h i m n xs → e ≡ cut d ys → ended d ys ≡ cell ∷ []
+pub fed_cell : (c d e : Cutting) (s t u : SessionState) (h i j : Option (List ℕ)) (m n o : List ℕ) (xs ys zs : List ℕ) (cell : PlacedCell) → HasFed c d s t h i m n xs → e ≡ cut d ys → ended d ys ≡ cell ∷ []
     → HasAnswered t u i j n o (cell.text ∷ []) → zs ≡ xs ++ ys → HasFed c e s u h j m o zs
 fed_cell c d e s t u h i j m n o xs ys zs cell so_far next one more all =
     subst (HasFed c e s u h j m o) (sym all) (record {
@@ -78,16 +93,16 @@ fed_cell c d e s t u h i j m n o xs ys zs cell so_far next one more all =
           (subst (HasAnswered s u h j m o) (sym (texts_append (ended c xs) (cell ∷ []))) (answered_on s t u h i j m n o (texts (ended c xs)) (cell.text ∷ []) so_far.answered more));
     })
 
-pub nothing_answered : (s t : Standing) (h i : Option (List ℕ)) (m n : ℕ) → t ≡ s → i ≡ h → n ≡ m → HasAnswered s t h i m n []
+pub nothing_answered : (s t : SessionState) (h i : Option (List ℕ)) (m n : List ℕ) → t ≡ s → i ≡ h → n ≡ m → HasAnswered s t h i m n []
 nothing_answered s t h i m n stands holds marks = record {
   readings = [];
   reads = tt;
-  standing = stands;
+  state = stands;
   written = subst (λ (x : Option (List ℕ)). Appends h x []) (sym holds) (Appends-nil h);
-  marked = omega (arith, marks);
+  begun = begun_none m n marks;
 }
 
-pub fed_append : (c d e : Cutting) (s t u : Standing) (h i j : Option (List ℕ)) (m n o : ℕ) (xs ys : List ℕ) → HasFed c d s t h i m n xs → HasFed d e t u i j n o ys → HasFed c e s u h j m o (xs ++ ys)
+pub fed_append : (c d e : Cutting) (s t u : SessionState) (h i j : Option (List ℕ)) (m n o : List ℕ) (xs ys : List ℕ) → HasFed c d s t h i m n xs → HasFed d e t u i j n o ys → HasFed c e s u h j m o (xs ++ ys)
 fed_append c d e s t u h i j m n o xs ys so_far more = record {
   cutting = more.cutting ∙ ap (λ (x : Cutting). cut x ys) so_far.cutting ∙ sym (cut_append c xs ys);
   answered =
@@ -96,5 +111,5 @@ fed_append c d e s t u h i j m n o xs ys so_far more = record {
 }
 
 -- how many bytes were taken
-pub fed_taken : (c d : Cutting) (s t : Standing) (h i : Option (List ℕ)) (m n : ℕ) (xs : List ℕ) → HasFed c d s t h i m n xs → d.taken ≡ c.taken + length xs
+pub fed_taken : (c d : Cutting) (s t : SessionState) (h i : Option (List ℕ)) (m n : List ℕ) (xs : List ℕ) → HasFed c d s t h i m n xs → d.taken ≡ c.taken + length xs
 fed_taken c d s t h i m n xs so_far = ap (λ (x : Cutting). x.taken) so_far.cutting ∙ taken_cut c xs

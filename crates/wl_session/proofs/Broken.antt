@@ -7,16 +7,16 @@ use Rattle.std.proofs.lemmas.List.{take-append-le, take_all}
 use Rattle.std.proofs.Math.Seq.{take-append-add}
 use Rattle.wl_scan.specs.Cells.{CellText, PlacedCell, cut, ended, remainder, start, cells}
 use Rattle.wl_scan.proofs.Pieces.{ended_append}
-use Rattle.wl_session.specs.Answers.{Standing, fresh, outcome, shown, standing_after, answers}
+use Rattle.wl_session.specs.Answers.{SessionState, fresh, outcome, shown, state_after, answers}
 use Rattle.wl_session.specs.Ends.{status_of, IsBrokenOff, IsLeftOff}
 use Rattle.wl_session.specs.Reading.{AllRead}
-use Rattle.wl_session.specs.Sitting.{Sitting, standing}
-use Rattle.wl_session.specs.Stopping.{Answers, Tell, within, at_end, StopsShort}
-use Rattle.wl_session.specs.Streaming.{AnswersAll}
+use Rattle.wl_session.specs.SessionView.{SessionView, state_of}
+use Rattle.wl_session.specs.Stopping.{Played, Tell, within, at_end, StopsShort}
+use Rattle.wl_session.specs.Streaming.{PlayedToEnd}
 use Rattle.wl_session.specs.Transcript.{cells_read, texts, input_limit}
 use Rattle.wl_session.specs.declared.streaming.Stop.{Stop}
 use Rattle.wl_session.specs.declared.streaming.Stop.TheVariants.{ReadFault, WriteFault, OutOfMemory, TooLong}
-use Rattle.wl_session.proofs.Answering.{standing_append, all_read_append, texts_append}
+use Rattle.wl_session.proofs.Answering.{begun_none, begun_on, state_append, all_read_append, texts_append}
 use Rattle.wl_session.proofs.Ending.{short_read, long_read, taken_all}
 
 -- the cells that end within a front of the bytes are a front of the cells that are read
@@ -63,17 +63,17 @@ told_front name bytes xs (Some ys) told took (at_end ends few e) =
     ([], short_read name bytes (subst (λ (l : List ℕ). length l ≤ input_limit) same few) ∙ ap (λ (l : List ℕ). texts (cells l)) (sym same) ∙ sym e ∙ sym (append-nil told))
 
 -- a write fault in the middle of a cell
-part_broken : (name : Option (List ℕ)) (bytes : List ℕ) (sitting : Sitting) (b h i : Option (List ℕ)) (m n status : ℕ) → StopsShort WriteFault (Some bytes) b fresh (standing sitting) h i m n
-    → IsBrokenOff (cells_read (Some name) bytes) (record { status = status; session = Some sitting }) h i
-part_broken name bytes sitting b h i m n status x =
+part_broken : (name : Option (List ℕ)) (bytes : List ℕ) (view : SessionView) (b h i : Option (List ℕ)) (m n : List ℕ) (status : ℕ) → StopsShort WriteFault (Some bytes) b fresh (state_of view) h i m n
+    → IsBrokenOff (cells_read (Some name) bytes) (record { status = status; session = Some view }) h i m n
+part_broken name bytes view b h i m n status x =
     let y = x.stopped in
     let done = y.answered in
     let one = y.breaks.answer in
     let part = y.breaks.part in
     let (others, told) = told_front name bytes x.bytes b x.told x.taken x.tells in
     let last = one.reading ∷ [] in
-    let shows : answers (standing_after fresh done.readings) last ≡ y.breaks.bytes =
-    append-nil (shown (length (standing_after fresh done.readings).history + 1) (outcome one.reading)) ∙ ap (λ (s : Standing). shown (length s.history + 1) (outcome one.reading)) (sym done.standing) ∙ sym one.pending in
+    let shows : answers (state_after fresh done.readings) last ≡ y.breaks.bytes =
+    append-nil (shown (length (state_after fresh done.readings).history + 1) (outcome one.reading)) ∙ ap (λ (s : SessionState). shown (length s.history + 1) (outcome one.reading)) (sym done.state) ∙ sym one.pending in
     record {
       begun = y.before ++ y.last ∷ [];
       others = y.behind ++ others;
@@ -86,13 +86,14 @@ part_broken name bytes sitting b h i m n status x =
       rest = part.rest;
       of_broken = shows ∙ part.whole;
       out = Appends-trans h y.written i (answers fresh done.readings) part.front done.written part.written;
-      history = ap (λ (s : Standing). s.history) (one.standing ∙ ap (λ (s : Standing). standing_after s last) done.standing ∙ sym (standing_append fresh done.readings last));
+      history = ap (λ (s : SessionState). s.history) (one.state ∙ ap (λ (s : SessionState). state_after s last) done.state ∙ sym (state_append fresh done.readings last));
+      counted = begun_on (length y.before) 1 (length (y.before ++ y.last ∷ [])) m y.before_last n done.begun y.begun (length-append y.before (y.last ∷ []));
     }
 
 -- or of the flush
-all_broken : (name : Option (List ℕ)) (bytes : List ℕ) (sitting : Sitting) (b h i : Option (List ℕ)) (m n status : ℕ) → AnswersAll (Some bytes) b fresh (standing sitting) h i m n
-    → IsBrokenOff (cells_read (Some name) bytes) (record { status = status; session = Some sitting }) h i
-all_broken name bytes sitting b h i m n status x =
+all_broken : (name : Option (List ℕ)) (bytes : List ℕ) (view : SessionView) (b h i : Option (List ℕ)) (m n : List ℕ) (status : ℕ) → PlayedToEnd (Some bytes) b fresh (state_of view) h i m n
+    → IsBrokenOff (cells_read (Some name) bytes) (record { status = status; session = Some view }) h i m n
+all_broken name bytes view b h i m n status x =
     let done = x.answered in
     let (others, told) = told_front name bytes x.bytes b (texts (cells x.bytes)) x.taken (at_end x.at_end x.few refl) in
     record {
@@ -107,24 +108,28 @@ all_broken name bytes sitting b h i m n status x =
       rest = [];
       of_broken = refl;
       out = subst (Appends h i) (sym (append-nil (answers fresh done.readings))) done.written;
-      history = ap (λ (s : Standing). s.history) (done.standing ∙ ap (standing_after fresh) (sym (append-nil done.readings)));
+      history = ap (λ (s : SessionState). s.history) (done.state ∙ ap (state_after fresh) (sym (append-nil done.readings)));
+      counted = done.begun;
     }
 
 -- memory ran out
-left_off : (name : Option (List ℕ)) (bytes : List ℕ) (sitting : Sitting) (b h i : Option (List ℕ)) (m n status : ℕ) → StopsShort OutOfMemory (Some bytes) b fresh (standing sitting) h i m n
-    → IsLeftOff (cells_read (Some name) bytes) (record { status = status; session = Some sitting }) h i
-left_off name bytes sitting b h i m n status x =
+left_off : (name : Option (List ℕ)) (bytes : List ℕ) (view : SessionView) (b h i : Option (List ℕ)) (m n : List ℕ) (status : ℕ) → StopsShort OutOfMemory (Some bytes) b fresh (state_of view) h i m n
+    → IsLeftOff (cells_read (Some name) bytes) (record { status = status; session = Some view }) h i m n
+left_off name bytes view b h i m n status x =
     let y = x.stopped in
     let done = y.answered in
     let (others, told) = told_front name bytes x.bytes b x.told x.taken x.tells in
     record {
       answered = y.before;
-      others = y.last ∷ (y.behind ++ others);
-      all = told ∙ ap (λ (l : List CellText). l ++ others) y.all ∙ append_assoc y.before (y.last ∷ y.behind) others;
+      unanswered = y.last ∷ [];
+      one = omega arith;
+      others = y.behind ++ others;
+      all = told ∙ ap (λ (l : List CellText). l ++ others) y.all ∙ append_assoc y.before (y.last ∷ y.behind) others ∙ sym (append_assoc y.before (y.last ∷ []) (y.behind ++ others));
       readings = done.readings;
       reads = done.reads;
       out = subst (λ (o : Option (List ℕ)). Appends h o (answers fresh done.readings)) (sym y.breaks.unwritten) done.written;
-      history = y.breaks.history ∙ ap (λ (s : Standing). s.history) done.standing;
+      history = y.breaks.history ∙ ap (λ (s : SessionState). s.history) done.state;
+      counted = begun_on (length y.before) 1 (length (y.before ++ y.last ∷ [])) m y.before_last n done.begun y.begun (length-append y.before (y.last ∷ []));
     }
 
 not_four : (refused : Bool) → status_of (Ok tt) refused ≡ 4 → ⊥
@@ -135,47 +140,50 @@ not_five : (refused : Bool) → status_of (Ok tt) refused ≡ 5 → ⊥
 not_five true e = omega arith
 not_five false e = omega arith
 
-played_of_bytes : (r : Result (Unit {0}) Stop) (name : Option (List ℕ)) (bytes : List ℕ) (sitting : Sitting) (b h i : Option (List ℕ)) (m n status : ℕ) → status ≡ status_of r sitting.refused → Answers r (Some bytes) b fresh (standing sitting) h i m n → status ≡ 4
-    → IsBrokenOff (cells_read (Some name) bytes) (record { status = status; session = Some sitting }) h i
-played_of_bytes (Ok done) name bytes sitting b h i m n status is answers four = absurd (not_four sitting.refused (sym is ∙ four))
-played_of_bytes (Err ReadFault) name bytes sitting b h i m n status is answers four = absurd (omega arith)
-played_of_bytes (Err OutOfMemory) name bytes sitting b h i m n status is answers four = absurd (omega arith)
-played_of_bytes (Err TooLong) name bytes sitting b h i m n status is answers four = absurd (omega arith)
-played_of_bytes (Err WriteFault) name bytes sitting b h i m n status is (inl x) four = part_broken name bytes sitting b h i m n status x
-played_of_bytes (Err WriteFault) name bytes sitting b h i m n status is (inr x) four = all_broken name bytes sitting b h i m n status x
+played_of_bytes : (r : Result (Unit {0}) Stop) (name : Option (List ℕ)) (bytes : List ℕ) (view : SessionView) (b h i : Option (List ℕ)) (m n : List ℕ) (status : ℕ) → status ≡ status_of r view.refused → Played r (Some bytes) b fresh (state_of view) h i m n → status ≡ 4
+    → IsBrokenOff (cells_read (Some name) bytes) (record { status = status; session = Some view }) h i m n
+played_of_bytes (Ok done) name bytes view b h i m n status is played four = absurd (not_four view.refused (sym is ∙ four))
+played_of_bytes (Err ReadFault) name bytes view b h i m n status is played four = absurd (omega arith)
+played_of_bytes (Err OutOfMemory) name bytes view b h i m n status is played four = absurd (omega arith)
+played_of_bytes (Err TooLong) name bytes view b h i m n status is played four = absurd (omega arith)
+played_of_bytes (Err WriteFault) name bytes view b h i m n status is (inl x) four = part_broken name bytes view b h i m n status x
+played_of_bytes (Err WriteFault) name bytes view b h i m n status is (inr x) four = all_broken name bytes view b h i m n status x
 
-starved_of_bytes : (r : Result (Unit {0}) Stop) (name : Option (List ℕ)) (bytes : List ℕ) (sitting : Sitting) (b h i : Option (List ℕ)) (m n status : ℕ) → status ≡ status_of r sitting.refused → Answers r (Some bytes) b fresh (standing sitting) h i m n → status ≡ 5
-    → IsLeftOff (cells_read (Some name) bytes) (record { status = status; session = Some sitting }) h i
-starved_of_bytes (Ok done) name bytes sitting b h i m n status is answers five = absurd (not_five sitting.refused (sym is ∙ five))
-starved_of_bytes (Err ReadFault) name bytes sitting b h i m n status is answers five = absurd (omega arith)
-starved_of_bytes (Err WriteFault) name bytes sitting b h i m n status is answers five = absurd (omega arith)
-starved_of_bytes (Err TooLong) name bytes sitting b h i m n status is answers five = absurd (omega arith)
-starved_of_bytes (Err OutOfMemory) name bytes sitting b h i m n status is answers five = left_off name bytes sitting b h i m n status answers
+starved_of_bytes : (r : Result (Unit {0}) Stop) (name : Option (List ℕ)) (bytes : List ℕ) (view : SessionView) (b h i : Option (List ℕ)) (m n : List ℕ) (status : ℕ) → status ≡ status_of r view.refused → Played r (Some bytes) b fresh (state_of view) h i m n → status ≡ 5
+    → IsLeftOff (cells_read (Some name) bytes) (record { status = status; session = Some view }) h i m n
+starved_of_bytes (Ok done) name bytes view b h i m n status is played five = absurd (not_five view.refused (sym is ∙ five))
+starved_of_bytes (Err ReadFault) name bytes view b h i m n status is played five = absurd (omega arith)
+starved_of_bytes (Err WriteFault) name bytes view b h i m n status is played five = absurd (omega arith)
+starved_of_bytes (Err TooLong) name bytes view b h i m n status is played five = absurd (omega arith)
+starved_of_bytes (Err OutOfMemory) name bytes view b h i m n status is played five = left_off name bytes view b h i m n status played
 
 -- the same of a source that may not tell its bytes, for the words that were read
-pub played_broken : (r : Result (Unit {0}) Stop) (asked : Option (Option (List ℕ))) (name : Option (List ℕ)) (sitting : Sitting) (a b h i : Option (List ℕ)) (s : Standing) (m n status : ℕ) → Some name ≡ asked → s ≡ fresh → status ≡ status_of r sitting.refused
-    → Answers r a b s (standing sitting) h i m n → status ≡ 4 → IfSome a (λ bytes. IsBrokenOff (cells_read asked bytes) (record { status = status; session = Some sitting }) h i)
-played_broken r asked name sitting None b h i s m n status read new is answers four = tt
-played_broken r asked name sitting (Some bytes) b h i s m n status read new is answers four =
-    subst (λ (w : Option (Option (List ℕ))). IsBrokenOff (cells_read w bytes) (record { status = status; session = Some sitting }) h i) read
-    (played_of_bytes r name bytes sitting b h i m n status is (subst (λ (t : Standing). Answers r (Some bytes) b t (standing sitting) h i m n) new answers) four)
+pub played_broken : (r : Result (Unit {0}) Stop) (asked : Option (Option (List ℕ))) (name : Option (List ℕ)) (view : SessionView) (a b h i : Option (List ℕ)) (s : SessionState) (m n : List ℕ) (status : ℕ) → Some name ≡ asked → s ≡ fresh → status ≡ status_of r view.refused
+    → Played r a b s (state_of view) h i m n → status ≡ 4 → IfSome a (λ bytes. IsBrokenOff (cells_read asked bytes) (record { status = status; session = Some view }) h i m n)
+played_broken r asked name view None b h i s m n status read new is played four = tt
+played_broken r asked name view (Some bytes) b h i s m n status read new is played four =
+    subst (λ (w : Option (Option (List ℕ))). IsBrokenOff (cells_read w bytes) (record { status = status; session = Some view }) h i m n) read
+    (played_of_bytes r name bytes view b h i m n status is (subst (λ (t : SessionState). Played r (Some bytes) b t (state_of view) h i m n) new played) four)
 
-pub played_starved : (r : Result (Unit {0}) Stop) (asked : Option (Option (List ℕ))) (name : Option (List ℕ)) (sitting : Sitting) (a b h i : Option (List ℕ)) (s : Standing) (m n status : ℕ) → Some name ≡ asked → s ≡ fresh → status ≡ status_of r sitting.refused
-    → Answers r a b s (standing sitting) h i m n → status ≡ 5 → IfSome a (λ bytes. IsLeftOff (cells_read asked bytes) (record { status = status; session = Some sitting }) h i)
-played_starved r asked name sitting None b h i s m n status read new is answers five = tt
-played_starved r asked name sitting (Some bytes) b h i s m n status read new is answers five =
-    subst (λ (w : Option (Option (List ℕ))). IsLeftOff (cells_read w bytes) (record { status = status; session = Some sitting }) h i) read
-    (starved_of_bytes r name bytes sitting b h i m n status is (subst (λ (t : Standing). Answers r (Some bytes) b t (standing sitting) h i m n) new answers) five)
+pub played_starved : (r : Result (Unit {0}) Stop) (asked : Option (Option (List ℕ))) (name : Option (List ℕ)) (view : SessionView) (a b h i : Option (List ℕ)) (s : SessionState) (m n : List ℕ) (status : ℕ) → Some name ≡ asked → s ≡ fresh → status ≡ status_of r view.refused
+    → Played r a b s (state_of view) h i m n → status ≡ 5 → IfSome a (λ bytes. IsLeftOff (cells_read asked bytes) (record { status = status; session = Some view }) h i m n)
+played_starved r asked name view None b h i s m n status read new is played five = tt
+played_starved r asked name view (Some bytes) b h i s m n status read new is played five =
+    subst (λ (w : Option (Option (List ℕ))). IsLeftOff (cells_read w bytes) (record { status = status; session = Some view }) h i m n) read
+    (starved_of_bytes r name bytes view b h i m n status is (subst (λ (t : SessionState). Played r (Some bytes) b t (state_of view) h i m n) new played) five)
 
 -- memory ran out before a cell was begun
-pub nothing_begun : (asked : Option (Option (List ℕ))) (sitting : Sitting) (a h : Option (List ℕ)) → standing sitting ≡ fresh → IfSome a (λ bytes. IsLeftOff (cells_read asked bytes) (record { status = 5; session = Some sitting }) h h)
-nothing_begun asked sitting None h new = tt
-nothing_begun asked sitting (Some bytes) h new = record {
+pub nothing_begun : (asked : Option (Option (List ℕ))) (view : SessionView) (a h : Option (List ℕ)) (m : List ℕ) → state_of view ≡ fresh → IfSome a (λ bytes. IsLeftOff (cells_read asked bytes) (record { status = 5; session = Some view }) h h m m)
+nothing_begun asked view None h m new = tt
+nothing_begun asked view (Some bytes) h m new = record {
   answered = [];
+  unanswered = [];
+  one = omega arith;
   others = cells_read asked bytes;
   all = refl;
   readings = [];
   reads = tt;
   out = Appends-nil h;
-  history = ap (λ (s : Standing). s.history) new;
+  history = ap (λ (s : SessionState). s.history) new;
+  counted = begun_none m m refl;
 }

@@ -4,7 +4,7 @@ use Rattle.std.specs.Fmt.{decimal, signed_decimal}
 use Rattle.wl_exact.specs.Fraction.{Fraction}
 use Rattle.wl_exact.specs.declared.num.NumFault.{NumFault}
 use Rattle.wl_expr.specs.Tree.{Tree, num, symbol, node, none}
-use Rattle.wl_session.specs.Reading.{Reading, Reads, refused, read}
+use Rattle.wl_session.specs.Reading.{Reading, IsReading, refused, read}
 use Rattle.wl_session.specs.Refusal.{not_supported}
 use Rattle.wl_scan.specs.Cells.{CellText}
 use Rattle.wl_session.specs.Totals.{summands, total}
@@ -15,11 +15,11 @@ pub record HistoryLine : Type 0 where
   pub value : Tree
 
 -- what is kept from cell to cell: the history, and whether some cell was refused
-pub record Standing : Type 0 where
+pub record SessionState : Type 0 where
   pub history : List HistoryLine
   pub refused : Bool
 
-abbrev pub fresh : Standing
+abbrev pub fresh : SessionState
 fresh = record { history = []; refused = false }
 
 -- a cell is refused with a line of text, or answered: with items that are shown before the answer, the text of the value, and a line of the history
@@ -63,23 +63,23 @@ abbrev pub shown : ℕ → Outcome → List ℕ
 shown n (refusal text) = text ++ 10 ∷ []
 shown n (answer items text line) = shown_answer n items text
 
-abbrev pub after : Standing → Outcome → Standing
+abbrev pub after : SessionState → Outcome → SessionState
 after s (refusal text) = record s { refused = true }
 after s (answer items text line) = record s { history = s.history ++ line ∷ [] }
 
 -- after these further cells
-abbrev pub standing_after : Standing → List Reading → Standing
-standing_after s [] = s
-standing_after s (r ∷ rs) = standing_after (after s (outcome r)) rs
+abbrev pub state_after : SessionState → List Reading → SessionState
+state_after s [] = s
+state_after s (r ∷ rs) = state_after (after s (outcome r)) rs
 
 -- the bytes that are written for these further cells
-abbrev pub answers : Standing → List Reading → List ℕ
+abbrev pub answers : SessionState → List Reading → List ℕ
 answers s [] = []
 answers s (r ∷ rs) = shown (length s.history + 1) (outcome r) ++ answers (after s (outcome r)) rs
 
 -- a cell was answered as it is read: what is kept, and the bytes that are to be written for it
-pub record IsAnswer (cell : CellText) (s s' : Standing) (bytes : List ℕ) : Type 0 where
+pub record IsAnswer (cell : CellText) (s s' : SessionState) (bytes : List ℕ) : Type 0 where
   pub reading : Reading
-  pub reads : Reads cell reading
-  pub standing : s' ≡ after s (outcome reading)
+  pub reads : IsReading cell reading
+  pub state : s' ≡ after s (outcome reading)
   pub pending : bytes ≡ shown (length s.history + 1) (outcome reading)

@@ -1,14 +1,15 @@
 -- How a run ends: its status, and what that says of its source, its sinks and its history.
-use Rattle.std.specs.Prelude.{◌≡◌, ◌≢◌, ◌≤◌, ◌<◌, ◌-◌, ◌^◌, ◌++◌, ◌⊎◌, ℕ, Bool, true, false, List, [], length, Option, Some, None, IfSome, Result, Ok, Err}
+use Rattle.std.specs.Prelude.{◌≡◌, ◌≢◌, ◌≤◌, ◌<◌, ◌+◌, ◌-◌, ◌^◌, ◌++◌, ◌⊎◌, ℕ, Bool, true, false, List, [], length, Option, Some, None, IfSome, Result, Ok, Err}
 use Rattle.std.specs.Io.KnownBytes.{Appends, Consumes, IsAtEnd}
 use Rattle.wl_ports.specs.Causes.{Rose, next_count}
 use Rattle.wl_scan.specs.Cells.{CellText, start, ended}
-use Rattle.wl_session.specs.Answers.{HistoryLine, fresh, standing_after, answers}
-use Rattle.wl_session.specs.Sitting.{Sitting, plain_lines}
+use Rattle.wl_session.specs.Counting.{HasBegun}
+use Rattle.wl_session.specs.Answers.{HistoryLine, fresh, state_after, answers}
+use Rattle.wl_session.specs.SessionView.{SessionView, plain_lines}
 use Rattle.wl_session.specs.Transcript.{transcript, cells_read, texts, input_limit}
 use Rattle.wl_session.specs.Reading.{Reading, AllRead}
 use Rattle.wl_session.specs.Words.{Asked}
-use Rattle.wl_session.specs.declared.ended.Ended.{Ended}
+use Rattle.wl_session.specs.declared.top.Ended.{Ended}
 use Rattle.wl_session.specs.declared.streaming.Stop.{Stop}
 use Rattle.wl_session.specs.declared.streaming.Stop.TheVariants.{ReadFault, WriteFault, OutOfMemory, TooLong}
 
@@ -22,9 +23,9 @@ status_of (Err OutOfMemory) refused = 5
 status_of (Err TooLong) refused = 6
 
 -- the history of the session, where there is one
-abbrev pub history_of : Option Sitting → List HistoryLine
+abbrev pub history_of : Option SessionView → List HistoryLine
 history_of None = []
-history_of (Some sitting) = plain_lines sitting.lines
+history_of (Some view) = plain_lines view.lines
 
 -- the status, the bytes on `out` and the history are those of the transcript, for the cells as they are read
 pub record IsTranscript (asked : Asked) (bytes : List ℕ) (end : Ended) (held held' : Option (List ℕ)) : Type 0 where
@@ -35,18 +36,20 @@ pub record IsTranscript (asked : Asked) (bytes : List ℕ) (end : Ended) (held h
   pub history : history_of end.session ≡ (transcript asked bytes readings).history
 
 -- Of the bytes that were taken from the source, where it tells them, the cells that ended within them were answered as they
--- are read, and no others.
-pub record IsCutShort (end : Ended) (left left' held held' : Option (List ℕ)) : Type 0 where
+-- are read, and no others was begun.
+pub record IsCutShort (end : Ended) (left left' held held' : Option (List ℕ)) (counts counts' : List ℕ) : Type 0 where
   pub bytes : List ℕ
   pub taken : Consumes left left' bytes
+  pub few : length bytes ≤ input_limit
   pub readings : List Reading
   pub reads : AllRead (texts (ended start bytes)) readings
   pub out : Appends held held' (answers fresh readings)
-  pub history : history_of end.session ≡ (standing_after fresh readings).history
+  pub history : history_of end.session ≡ (state_after fresh readings).history
+  pub counted : HasBegun (length (texts (ended start bytes))) counts counts'
 
 -- Of these cells some were begun. All bytes of the whole ones were written, and of the broken one, if there is one, a front;
 -- the history is that of both.
-pub record IsBrokenOff (cells : List CellText) (end : Ended) (held held' : Option (List ℕ)) : Type 0 where
+pub record IsBrokenOff (cells : List CellText) (end : Ended) (held held' : Option (List ℕ)) (counts counts' : List ℕ) : Type 0 where
   pub begun : List CellText
   pub others : List CellText
   pub all : cells ≡ begun ++ others
@@ -56,25 +59,35 @@ pub record IsBrokenOff (cells : List CellText) (end : Ended) (held held' : Optio
   pub reads : AllRead begun (whole ++ broken)
   pub front : List ℕ
   pub rest : List ℕ
-  pub of_broken : answers (standing_after fresh whole) broken ≡ front ++ rest
+  pub of_broken : answers (state_after fresh whole) broken ≡ front ++ rest
   pub out : Appends held held' (answers fresh whole ++ front)
-  pub history : history_of end.session ≡ (standing_after fresh (whole ++ broken)).history
+  pub history : history_of end.session ≡ (state_after fresh (whole ++ broken)).history
+  pub counted : HasBegun (length begun) counts counts'
 
--- of these cells some were answered, their bytes were written and no others, and the history is theirs
-pub record IsLeftOff (cells : List CellText) (end : Ended) (held held' : Option (List ℕ)) : Type 0 where
+-- Of these cells some were answered, their bytes were written and no others, and the history is theirs. At most one more was begun.
+pub record IsLeftOff (cells : List CellText) (end : Ended) (held held' : Option (List ℕ)) (counts counts' : List ℕ) : Type 0 where
   pub answered : List CellText
+  pub unanswered : List CellText
+  pub one : length unanswered ≤ 1
   pub others : List CellText
-  pub all : cells ≡ answered ++ others
+  pub all : cells ≡ (answered ++ unanswered) ++ others
   pub readings : List Reading
   pub reads : AllRead answered readings
   pub out : Appends held held' (answers fresh readings)
-  pub history : history_of end.session ≡ (standing_after fresh readings).history
+  pub history : history_of end.session ≡ (state_after fresh readings).history
+  pub counted : HasBegun (length (answered ++ unanswered)) counts counts'
 
 -- so many bytes were taken from the source, where it tells them
 pub record HasTaken (n : ℕ) (left left' : Option (List ℕ)) : Type 0 where
   pub bytes : List ℕ
   pub taken : Consumes left left' bytes
   pub many : length bytes ≡ n
+
+-- no more bytes were taken from the source than one past the longest input that is read, where it tells them
+pub record HasTakenFew (left left' : Option (List ℕ)) : Type 0 where
+  pub bytes : List ℕ
+  pub taken : Consumes left left' bytes
+  pub few : length bytes ≤ input_limit + 1
 
 -- the source held no more bytes than are read, and none are left, where it tells them
 pub record IsReadToEnd (left left' : Option (List ℕ)) : Type 0 where
@@ -86,8 +99,8 @@ pub record IsFaultless (before now : ℕ) : Type 0 where
   pub kept : now ≡ before
   pub below : before < 2 ^ 64 - 1
 
--- a line was tried once: a front of it was written, and all of it unless the count of faults rose
-pub record IsTold (line : List ℕ) (held held' : Option (List ℕ)) (faults faults' : ℕ) : Type 0 where
+-- a front of the line was written, and all of it unless the count of faults rose
+pub record IsReported (line : List ℕ) (held held' : Option (List ℕ)) (faults faults' : ℕ) : Type 0 where
   pub front : List ℕ
   pub rest : List ℕ
   pub whole : line ≡ front ++ rest

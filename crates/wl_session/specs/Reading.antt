@@ -19,14 +19,14 @@ pub record IsRefusedWith (bytes line : List ℕ) : Type 0 where
   pub cause : Refused bytes fault
   pub line_of : line ≡ syntax_line fault
 
-abbrev pub Reads : CellText → Reading → Type 0
-Reads (whole bytes) (read e) = IsReadAs bytes e
-Reads (whole bytes) (refused line) = IsRefusedWith bytes line
-Reads too_long reading = reading ≡ refused too_long_line
+abbrev pub IsReading : CellText → Reading → Type 0
+IsReading (whole bytes) (read e) = IsReadAs bytes e
+IsReading (whole bytes) (refused line) = IsRefusedWith bytes line
+IsReading too_long reading = reading ≡ refused too_long_line
 
 -- each of these cells is read so
 abbrev pub AllRead : List CellText → List Reading → Type 0
 AllRead [] [] = ⊤
 AllRead [] (reading ∷ readings) = ⊥
 AllRead (cell ∷ cells) [] = ⊥
-AllRead (cell ∷ cells) (reading ∷ readings) = Reads cell reading × AllRead cells readings
+AllRead (cell ∷ cells) (reading ∷ readings) = IsReading cell reading × AllRead cells readings

@@ -2,25 +2,26 @@
 use Rattle.std.specs.Prelude.{◌≡◌, ◌≤◌, ◌+◌, ℕ, List, length, take, Option, Result, Ok, Err}
 use Rattle.std.specs.Io.KnownBytes.{Appends, Consumes, IsAtEnd}
 use Rattle.wl_ports.specs.Causes.{Rose}
-use Rattle.wl_session.specs.Answers.{Standing, standing_after, answers}
+use Rattle.wl_session.specs.Answers.{SessionState, state_after, answers}
+use Rattle.wl_session.specs.Counting.{HasBegun}
 use Rattle.wl_session.specs.Reading.{Reading, AllRead}
 use Rattle.wl_scan.specs.Cells.{Cutting, CellText, cut, ended, start, cells}
 use Rattle.wl_session.specs.Transcript.{input_limit, texts}
 use Rattle.wl_session.specs.declared.streaming.Stop.{Stop}
 use Rattle.wl_session.specs.declared.streaming.Stop.TheVariants.{ReadFault, WriteFault, OutOfMemory, TooLong}
 
--- these cells were answered as they are read: what is kept from cell to cell, what `out` holds and how many cells were begun
-pub record HasAnswered (s s' : Standing) (held held' : Option (List ℕ)) (begun begun' : ℕ) (cells : List CellText) : Type 0 where
+-- these cells were answered as they are read: what is kept from cell to cell, what `out` holds and that each cell was begun
+pub record HasAnswered (s s' : SessionState) (held held' : Option (List ℕ)) (counts counts' : List ℕ) (cells : List CellText) : Type 0 where
   pub readings : List Reading
   pub reads : AllRead cells readings
-  pub standing : s' ≡ standing_after s readings
+  pub state : s' ≡ state_after s readings
   pub written : Appends held held' (answers s readings)
-  pub marked : begun' ≡ begun + length cells
+  pub begun : HasBegun (length cells) counts counts'
 
 -- these bytes were cut, and the cells that ended within them were answered
-pub record HasFed (c c' : Cutting) (s s' : Standing) (held held' : Option (List ℕ)) (begun begun' : ℕ) (bytes : List ℕ) : Type 0 where
+pub record HasFed (c c' : Cutting) (s s' : SessionState) (held held' : Option (List ℕ)) (counts counts' : List ℕ) (bytes : List ℕ) : Type 0 where
   pub cutting : c' ≡ cut c bytes
-  pub answered : HasAnswered s s' held held' begun begun' (texts (ended c bytes))
+  pub answered : HasAnswered s s' held held' counts counts' (texts (ended c bytes))
 
 -- the count of faults of `out` by how a call ends: it rises at a write fault alone
 abbrev pub OutIsBlamed : Result (Unit {0}) Stop → ℕ → ℕ → Type 0
@@ -39,23 +40,23 @@ IsBlamed (Err OutOfMemory) source source' out out' = (source' ≡ source) × (ou
 IsBlamed (Ok done) source source' out out' = (source' ≡ source) × (out' ≡ out)
 
 -- the source was read to its end, and all its cells were answered
-pub record AnswersAll (left left' : Option (List ℕ)) (s s' : Standing) (held held' : Option (List ℕ)) (begun begun' : ℕ) : Type 0 where
+pub record PlayedToEnd (left left' : Option (List ℕ)) (s s' : SessionState) (held held' : Option (List ℕ)) (counts counts' : List ℕ) : Type 0 where
   pub bytes : List ℕ
   pub taken : Consumes left left' bytes
   pub at_end : IsAtEnd left'
   pub few : length bytes ≤ input_limit
-  pub answered : HasAnswered s s' held held' begun begun' (texts (cells bytes))
+  pub answered : HasAnswered s s' held held' counts counts' (texts (cells bytes))
 
 -- as many bytes were taken as are read, and the cells that ended within them were answered
-pub record AnswersSome (left left' : Option (List ℕ)) (s s' : Standing) (held held' : Option (List ℕ)) (begun begun' : ℕ) : Type 0 where
+pub record PlayedToFault (left left' : Option (List ℕ)) (s s' : SessionState) (held held' : Option (List ℕ)) (counts counts' : List ℕ) : Type 0 where
   pub bytes : List ℕ
   pub taken : Consumes left left' bytes
   pub few : length bytes ≤ input_limit
-  pub answered : HasAnswered s s' held held' begun begun' (texts (ended start bytes))
+  pub answered : HasAnswered s s' held held' counts counts' (texts (ended start bytes))
 
 -- one byte too many was taken, and the cells that ended before it were answered
-pub record AnswersFirst (left left' : Option (List ℕ)) (s s' : Standing) (held held' : Option (List ℕ)) (begun begun' : ℕ) : Type 0 where
+pub record PlayedToLimit (left left' : Option (List ℕ)) (s s' : SessionState) (held held' : Option (List ℕ)) (counts counts' : List ℕ) : Type 0 where
   pub bytes : List ℕ
   pub taken : Consumes left left' bytes
   pub many : length bytes ≡ input_limit + 1
-  pub answered : HasAnswered s s' held held' begun begun' (texts (ended start (take input_limit bytes)))
+  pub answered : HasAnswered s s' held held' counts counts' (texts (ended start (take input_limit bytes)))

@@ -1,7 +1,7 @@
 -- What a run writes and leaves, whatever the pieces that its source gives.
 use Rattle.std.specs.Prelude.{ℕ, List, [], ◌∷◌, ◌++◌, ◌==◌, length, map, take, nat_le, codes, Some, None, if◌then◌else◌}
 use Rattle.wl_scan.specs.Cells.{CellText, PlacedCell, start, cells, ended}
-use Rattle.wl_session.specs.Answers.{HistoryLine, fresh, standing_after, answers}
+use Rattle.wl_session.specs.Answers.{HistoryLine, fresh, state_after, answers}
 use Rattle.wl_session.specs.Reading.{Reading}
 use Rattle.wl_session.specs.Words.{Asked}
 
@@ -36,7 +36,7 @@ pub record Transcript : Type 0 where
 -- of words that are read or not, the bytes of the source, and the readings of its cells
 abbrev pub transcript : Asked → List ℕ → List Reading → Transcript
 transcript None bytes readings = record { out = []; status = 2; history = [] }
-transcript (Some name) bytes readings = let last = standing_after fresh readings in record {
+transcript (Some name) bytes readings = let last = state_after fresh readings in record {
   out = answers fresh readings;
   status = if nat_le (length bytes) input_limit then (if last.refused then 1 else 0) else 6;
   history = last.history;

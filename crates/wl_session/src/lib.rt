@@ -1,7 +1,6 @@
 //! The session: a notebook of cells is read, and each cell is answered.
 #![tactic(auto)]
 
-mod ended;
 pub mod laws;
 mod reading;
 mod refusal;
@@ -13,6 +12,5 @@ mod top;
 mod totals;
 mod words;
 
-pub use ended::Ended;
 pub use session::{Line, Session};
-pub use top::run;
+pub use top::{Ended, run};

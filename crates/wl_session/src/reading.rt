@@ -3,7 +3,7 @@ ghost use Rattle.std.specs.Prelude.{IfOk};
 ghost use Rattle.wl_scan.specs.CellText.{cell_text};
 ghost use Rattle.wl_scan.specs.Cells.{IsWithinCell};
 ghost use Rattle.wl_session.specs.CellReading.{reading_of};
-ghost use Rattle.wl_session.specs.Reading.{Reads};
+ghost use Rattle.wl_session.specs.Reading.{IsReading};
 
 use crate::refusal::Refusal;
 use std::alloc::Global;
@@ -15,7 +15,7 @@ use wl_syntax::{SyntaxFault, parse};
 /// The expression of a cell, or why it is refused.
 pub(crate) fn read_cell(alloc: Global, cell: Cell<'_>) -> Result<Result<Expr, Refusal>, Memory>
     requires { IsWithinCell (cell_text cell) }
-    ensures { IfOk result (λ r. Reads (cell_text cell.entry) (reading_of r)) }
+    ensures { IfOk result (λ r. IsReading (cell_text cell.entry) (reading_of r)) }
 {
     let bytes = match cell {
         Cell::TooLong => return Ok(Err(Refusal::TooLong)),

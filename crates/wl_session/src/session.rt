@@ -6,7 +6,7 @@ ghost use Rattle.wl_scan.specs.Cells.{IsWithinCell};
 ghost use Rattle.wl_session.specs.Answers.{IsAnswer, refusal, outcome, sum_outcome, overflow_item, overflow_text, overflow_value, shown, shown_answer, after, fresh};
 ghost use Rattle.wl_session.specs.Reading.{read};
 ghost use Rattle.wl_session.specs.Refusal.{refusal_line};
-ghost use Rattle.wl_session.specs.Sitting.{standing};
+ghost use Rattle.wl_session.specs.SessionView.{state_of};
 
 use crate::reading::read_cell;
 use crate::refusal::{Refusal, refusal_line};
@@ -35,18 +35,18 @@ pub struct Session {
 
 impl Model for Session {
     ghost use Rattle.std.specs.Prelude.{string_bytes};
-    ghost use Rattle.wl_session.specs.Sitting.{Sitting, sitting_code};
+    ghost use Rattle.wl_session.specs.SessionView.{SessionView, session_code};
 
-    ghost Value = { Sitting };
+    ghost Value = { SessionView };
 
-    ghost coded = { sitting_code };
+    ghost coded = { session_code };
 
     ghost view = { λ s. record { lines = s.lines.items; refused = s.refused; pending = string_bytes s.pending } };
 }
 
 impl Session {
     pub(crate) fn new(alloc: Global) -> Session
-        ensures { standing result ≡ fresh }
+        ensures { state_of result ≡ fresh }
     {
         Session {
             lines: Vec::new(alloc),
@@ -79,7 +79,7 @@ impl Session {
     /// Answers the next cell: its bytes are pending afterwards.
     pub(crate) fn answer(&mut self, alloc: Global, cell: Cell<'_>) -> Result<(), Memory>
         requires { IsWithinCell (cell_text cell) }
-        ensures answered { OnOk result (IsAnswer (cell_text cell.entry) (standing self.old) (standing self.new) self.new.pending) }
+        ensures answered { OnOk result (IsAnswer (cell_text cell.entry) (state_of self.old) (state_of self.new) self.new.pending) }
         ensures unchanged { OnErr result (self.new.lines ≡ self.old.lines) }
     {
         match read_cell(alloc, cell)? {
@@ -89,7 +89,7 @@ impl Session {
     }
 
     fn refuse(&mut self, alloc: Global, why: Refusal) -> Result<(), Memory>
-        ensures standing { OnOk result (standing self.new ≡ after (standing self.old) (refusal (refusal_line why))) }
+        ensures state { OnOk result (state_of self.new ≡ after (state_of self.old) (refusal (refusal_line why))) }
         ensures pending { OnOk result (self.new.pending ≡ shown (length self.old.lines + 1) (refusal (refusal_line why))) }
         ensures unchanged { self.new.lines ≡ self.old.lines }
     {
@@ -101,7 +101,7 @@ impl Session {
     }
 
     fn show(&mut self, alloc: Global, input: Expr) -> Result<(), Memory>
-        ensures standing { OnOk result (standing self.new ≡ after (standing self.old) (outcome (read (plain input)))) }
+        ensures state { OnOk result (state_of self.new ≡ after (state_of self.old) (outcome (read (plain input)))) }
         ensures pending { OnOk result (self.new.pending ≡ shown (length self.old.lines + 1) (outcome (read (plain input)))) }
         ensures unchanged { OnErr result (self.new.lines ≡ self.old.lines) }
     {
@@ -114,7 +114,7 @@ impl Session {
 
     /// A sum is a whole number here.
     fn show_sum(&mut self, alloc: Global, input: Expr, sum: Num) -> Result<(), Memory>
-        ensures standing { OnOk result (standing self.new ≡ after (standing self.old) (sum_outcome (plain input) (Ok sum))) }
+        ensures state { OnOk result (state_of self.new ≡ after (state_of self.old) (sum_outcome (plain input) (Ok sum))) }
         ensures pending { OnOk result (self.new.pending ≡ shown (length self.old.lines + 1) (sum_outcome (plain input) (Ok sum))) }
         ensures unchanged { OnErr result (self.new.lines ≡ self.old.lines) }
     {
@@ -127,7 +127,7 @@ impl Session {
     }
 
     fn show_overflow(&mut self, alloc: Global, input: Expr) -> Result<(), Memory>
-        ensures standing { OnOk result (standing self.new ≡ after (standing self.old) (sum_outcome (plain input) (Err NumFault.Overflow))) }
+        ensures state { OnOk result (state_of self.new ≡ after (state_of self.old) (sum_outcome (plain input) (Err NumFault.Overflow))) }
         ensures pending { OnOk result (self.new.pending ≡ shown (length self.old.lines + 1) (sum_outcome (plain input) (Err NumFault.Overflow))) }
         ensures unchanged { OnErr result (self.new.lines ≡ self.old.lines) }
     {

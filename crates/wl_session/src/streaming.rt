@@ -5,8 +5,8 @@ ghost use Rattle.wl_ports.specs.Causes.{HasCause};
 ghost use Rattle.wl_scan.specs.Cells.{start, ended, remainder, text_of};
 ghost use Rattle.wl_session.specs.Transcript.{texts};
 ghost use Rattle.wl_session.specs.Pieces.{IsWrittenInPart};
-ghost use Rattle.wl_session.specs.Sitting.{standing};
-ghost use Rattle.wl_session.specs.Stopping.{HasStopped, Answers};
+ghost use Rattle.wl_session.specs.SessionView.{state_of};
+ghost use Rattle.wl_session.specs.Stopping.{HasStopped, Played};
 ghost use Rattle.wl_session.specs.Streaming.{HasAnswered, HasFed, OutIsBlamed, IsBlamed};
 
 use crate::session::Session;
@@ -19,6 +19,8 @@ const INPUT_LIMIT: u64 = 1_073_741_824;
 
 /// The longest piece that is asked for, in bytes.
 const PIECE: usize = 4_096;
+
+const _: () = prove!(PIECE <= 4_096);
 
 /// Why a run stops before all its cells are answered.
 #[derive(Drop, Clone, Copy)]
@@ -45,13 +47,14 @@ pub(crate) fn write_whole<K: Sink>(out: &mut K, piece: &[u8]) -> Result<(), Fail
     Ok(())
 }
 
-/// One read of at most `room` bytes.
+/// One read of at most `room` bytes. All reads of a run are made here.
 pub(crate) fn read_piece<S: Source>(
     source: &mut S,
     piece: &mut [u8],
     room: u64,
 ) -> Result<usize, Failed>
     requires space { 0 < length piece.old }
+    requires piece { length piece.old ≤ PIECE }
     requires room { 0 < room }
     ensures cause { HasCause (S.faults source.old) (S.faults source.new) result }
     ensures within { IfOk result (λ n. n ≤ room) }
@@ -67,6 +70,7 @@ pub(crate) fn read_piece<S: Source>(
     } else {
         piece.len()
     };
+    prove!(most <= PIECE);
     source.read(&mut piece[..most])
 }
 
@@ -80,10 +84,10 @@ fn answer_cell<K: Sink, L: Ledger>(
 ) -> Result<(), Stop>
     requires { IsTrue cells.now.told }
     ensures blamed { OutIsBlamed result (K.faults out.old) (K.faults out.new) }
-    ensures answered { OnOk result (HasAnswered (standing session.old) (standing session.new)
-        (K.held out.old) (K.held out.new) (length work.old) (length work.new) (text_of cells.now ∷ [])) }
-    ensures stopped { IfErr result (λ stop. HasStopped stop (standing session.old) (standing session.new)
-        (K.held out.old) (K.held out.new) (length work.old) (length work.new) (text_of cells.now ∷ [])) }
+    ensures answered { OnOk result (HasAnswered (state_of session.old) (state_of session.new)
+        (K.held out.old) (K.held out.new) work.old work.new (text_of cells.now ∷ [])) }
+    ensures stopped { IfErr result (λ stop. HasStopped stop (state_of session.old) (state_of session.new)
+        (K.held out.old) (K.held out.new) work.old work.new (text_of cells.now ∷ [])) }
 {
     work.mark();
     match session.answer(alloc, cells.cell()) {
@@ -107,20 +111,17 @@ fn feed<K: Sink, L: Ledger>(
 ) -> Result<(), Stop>
     requires { cells.old.taken + length piece.now ≤ 2 ^ 62 }
     ensures blamed { OutIsBlamed result (K.faults out.old) (K.faults out.new) }
-    ensures fed { OnOk result (HasFed cells.old cells.new (standing session.old) (standing session.new)
-        (K.held out.old) (K.held out.new) (length work.old) (length work.new) piece.now) }
-    ensures stopped { IfErr result (λ stop. HasStopped stop (standing session.old) (standing session.new)
-        (K.held out.old) (K.held out.new) (length work.old) (length work.new) (texts (ended cells.old piece.now))) }
+    ensures fed { OnOk result (HasFed cells.old cells.new (state_of session.old) (state_of session.new)
+        (K.held out.old) (K.held out.new) work.old work.new piece.now) }
+    ensures stopped { IfErr result (λ stop. HasStopped stop (state_of session.old) (state_of session.new)
+        (K.held out.old) (K.held out.new) work.old work.new (texts (ended cells.old piece.now))) }
 {
     let mut at = 0;
     while at < piece.len() {
         let fed = cells.feed(&piece[at..]);
         at += fed.used;
         if fed.cell {
-            match answer_cell(alloc, cells, session, out, work) {
-                Ok(()) => {}
-                Err(stop) => return Err(stop),
-            }
+            answer_cell(alloc, cells, session, out, work)?;
         }
     }
     Ok(())
@@ -135,18 +136,15 @@ fn answer_rest<K: Sink, L: Ledger>(
     work: &mut Work<L>,
 ) -> Result<(), Stop>
     ensures blamed { OutIsBlamed result (K.faults out.old) (K.faults out.new) }
-    ensures answered { OnOk result (HasAnswered (standing session.old) (standing session.new)
-        (K.held out.old) (K.held out.new) (length work.old) (length work.new) (texts (remainder cells.old))) }
-    ensures stopped { IfErr result (λ stop. HasStopped stop (standing session.old) (standing session.new)
-        (K.held out.old) (K.held out.new) (length work.old) (length work.new) (texts (remainder cells.old))) }
+    ensures answered { OnOk result (HasAnswered (state_of session.old) (state_of session.new)
+        (K.held out.old) (K.held out.new) work.old work.new (texts (remainder cells.old))) }
+    ensures stopped { IfErr result (λ stop. HasStopped stop (state_of session.old) (state_of session.new)
+        (K.held out.old) (K.held out.new) work.old work.new (texts (remainder cells.old))) }
 {
     if !cells.finish() {
         return Ok(());
     }
-    match answer_cell(alloc, cells, session, out, work) {
-        Ok(()) => Ok(()),
-        Err(stop) => Err(stop),
-    }
+    answer_cell(alloc, cells, session, out, work)
 }
 
 /// Reads the source to its end, and answers each cell before more is read.
@@ -162,31 +160,22 @@ pub(crate) fn stream<S: Source, K: Sink, L: Ledger>(
     ensures blamed { IsBlamed result (S.faults source.old) (S.faults source.new) (K.faults out.old) (K.faults out.new) }
     ensures hits { S.hits source.new ≡ S.hits source.old }
     ensures strays { S.strays source.new ≡ S.strays source.old }
-    ensures answers { Answers result (S.left source.old) (S.left source.new) (standing session.old) (standing session.new)
-        (K.held out.old) (K.held out.new) (length work.old) (length work.new) }
+    ensures played { Played result (S.left source.old) (S.left source.new) (state_of session.old) (state_of session.new)
+        (K.held out.old) (K.held out.new) work.old work.new }
 {
     let mut piece = [0u8; PIECE];
     let mut room = INPUT_LIMIT + 1;
     'pieces: loop {
         let count = match read_piece(source, &mut piece, room) {
-            Ok(0) => {
-                return match answer_rest(alloc, cells, session, out, work) {
-                    Ok(()) => Ok(()),
-                    Err(stop) => Err(stop),
-                };
-            }
+            Ok(0) => return answer_rest(alloc, cells, session, out, work),
             Ok(count) => count,
             Err(Failed) => return Err(Stop::ReadFault),
         };
         if count as u64 == room {
-            return match feed(alloc, cells, session, &piece[..count - 1], out, work) {
-                Ok(()) => Err(Stop::TooLong),
-                Err(stop) => Err(stop),
-            };
+            feed(alloc, cells, session, &piece[..count - 1], out, work)?;
+            return Err(Stop::TooLong);
         }
-        match feed(alloc, cells, session, &piece[..count], out, work) {
-            Ok(()) => room -= count as u64,
-            Err(stop) => return Err(stop),
-        }
+        feed(alloc, cells, session, &piece[..count], out, work)?;
+        room -= count as u64;
     }
 }

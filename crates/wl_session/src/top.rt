@@ -1,21 +1,29 @@
 //! The top call: a notebook is read from a source, and what its cells answer is written to a sink.
 ghost use Rattle.std.specs.Prelude.{◌≡◌, ◌≢◌, ◌≤◌, ◌<◌, ◌+◌, ◌↔◌, ◌⊎◌, ℕ, true, Option, Some, None, IsSome, IsNone, IfSome, OnOk, length, map, option_copied, string_bytes, Result, Ok, Err};
 ghost use Rattle.wl_ports.specs.Causes.{Rose, next_count};
-ghost use Rattle.wl_scan.specs.Cells.{start, cells};
-ghost use Rattle.wl_session.specs.Ends.{IsTold, IsTranscript, IsCutShort, IsBrokenOff, IsLeftOff, IsFaultless, IsReadToEnd, HasTaken, HasRisen, status_of};
-ghost use Rattle.wl_session.specs.Sitting.{standing};
-ghost use Rattle.wl_session.specs.Stopping.{Answers};
+ghost use Rattle.wl_scan.specs.Cells.{start};
+ghost use Rattle.wl_session.specs.Counting.{HasBegun};
+ghost use Rattle.wl_session.specs.Ends.{IsReported, IsTranscript, IsCutShort, IsBrokenOff, IsLeftOff, IsFaultless, IsReadToEnd, HasTaken, HasTakenFew, HasRisen, status_of};
+ghost use Rattle.wl_session.specs.SessionView.{state_of};
+ghost use Rattle.wl_session.specs.Stopping.{Played};
 ghost use Rattle.wl_session.specs.Streaming.{IsBlamed};
 ghost use Rattle.wl_session.specs.Transcript.{line_for, input_limit, cells_read};
 ghost use Rattle.wl_session.specs.Words.{asked, words_of};
 
-use crate::ended::Ended;
 use crate::session::Session;
 use crate::streaming::{Stop, stream, write_whole};
 use crate::words::asked;
 use std::alloc::Global;
 use wl_ports::{Failed, Ledger, Sink, Source, Work};
 use wl_scan::Cells;
+
+/// How a run ended: its status, from 0 to 6, and its session. There is none where the words were refused, or memory was
+/// wanting before it was made.
+#[derive(Drop)]
+pub struct Ended {
+    pub status: u8,
+    pub session: Option<Session>,
+}
 
 /// Opens the source, answers its cells, and flushes what was written.
 fn play<S: Source, K: Sink, L: Ledger>(
@@ -29,8 +37,8 @@ fn play<S: Source, K: Sink, L: Ledger>(
 ) -> Result<(), Stop>
     requires { cells.old ≡ start }
     ensures blamed { IsBlamed result (S.faults source.old) (S.faults source.new) (K.faults out.old) (K.faults out.new) }
-    ensures answers { Answers result (S.left source.old) (S.left source.new) (standing session.old) (standing session.new)
-        (K.held out.old) (K.held out.new) (length work.old) (length work.new) }
+    ensures played { Played result (S.left source.old) (S.left source.new) (state_of session.old) (state_of session.new)
+        (K.held out.old) (K.held out.new) work.old work.new }
     ensures hit { IsSome (S.left source.old) → option_copied name.entry ≡ S.served source.old
         → (S.hits source.new ≡ next_count (S.hits source.old)) × (S.strays source.new ≡ S.strays source.old) }
     ensures stray { IsSome (S.left source.old) → option_copied name.entry ≢ S.served source.old
@@ -41,10 +49,7 @@ fn play<S: Source, K: Sink, L: Ledger>(
         Ok(()) => {}
         Err(Failed) => return Err(Stop::ReadFault),
     }
-    match stream(alloc, cells, session, source, out, work) {
-        Ok(()) => {}
-        Err(stop) => return Err(stop),
-    }
+    stream(alloc, cells, session, source, out, work)?;
     match out.flush() {
         Ok(()) => Ok(()),
         Err(Failed) => Err(Stop::WriteFault),
@@ -66,8 +71,8 @@ fn line_for(status: u8) -> &'static str
 }
 
 /// Tries the line for a status once.
-fn tell<E: Sink>(err: &mut E, status: u8)
-    ensures { IsTold (line_for status) (E.held err.old) (E.held err.new) (E.faults err.old) (E.faults err.new) }
+fn report<E: Sink>(err: &mut E, status: u8)
+    ensures { IsReported (line_for status) (E.held err.old) (E.held err.new) (E.faults err.old) (E.faults err.new) }
 {
     let _ = write_whole(err, line_for(status).as_bytes());
 }
@@ -103,16 +108,23 @@ pub fn run<S: Source, K: Sink, E: Sink, L: Ledger>(
     ensures transcript { IfSome (S.left source.old) (λ bytes.
         ¬ Rose (S.faults source.old) (S.faults source.new) → ¬ Rose (K.faults out.old) (K.faults out.new) → result.status ≢ 5
         → IsTranscript (asked (words_of words.now)) bytes result (K.held out.old) (K.held out.new)) }
-    ensures told { IsTold (line_for result.status) (E.held err.old) (E.held err.new) (E.faults err.old) (E.faults err.new) }
-    ensures marked { result.status ≤ 1 → IfSome (S.left source.old) (λ bytes. length work.new ≡ length work.old + length (cells bytes)) }
+    ensures reported { IsReported (line_for result.status) (E.held err.old) (E.held err.new) (E.faults err.old) (E.faults err.new) }
     ensures flushed { result.status ≤ 1 → IsSome (K.held out.old) → K.flushed out.new ≡ Some true }
+    ensures taken { HasTakenFew (S.left source.old) (S.left source.new) }
+
+    // A count for each cell that was begun; those before stay as they were.
+    ensures counts_kept { (cells : ℕ) × HasBegun cells work.old work.new }
+    ensures counted { (result.status ≤ 1) ⊎ (result.status ≡ 6) → IfSome (S.left source.old) (λ bytes.
+        HasBegun (length (cells_read (asked (words_of words.now)) bytes)) work.old work.new) }
+    ensures uncounted { result.status ≡ 2 → work.new ≡ work.old }
 
     // After a failure it is that of the first cells.
-    ensures cut_short { result.status ≡ 3 → IsCutShort result (S.left source.old) (S.left source.new) (K.held out.old) (K.held out.new) }
+    ensures cut_short { result.status ≡ 3 → IsCutShort result (S.left source.old) (S.left source.new)
+        (K.held out.old) (K.held out.new) work.old work.new }
     ensures broken_off { result.status ≡ 4 → IfSome (S.left source.old) (λ bytes.
-        IsBrokenOff (cells_read (asked (words_of words.now)) bytes) result (K.held out.old) (K.held out.new)) }
+        IsBrokenOff (cells_read (asked (words_of words.now)) bytes) result (K.held out.old) (K.held out.new) work.old work.new) }
     ensures left_off { result.status ≡ 5 → IfSome (S.left source.old) (λ bytes.
-        IsLeftOff (cells_read (asked (words_of words.now)) bytes) result (K.held out.old) (K.held out.new)) }
+        IsLeftOff (cells_read (asked (words_of words.now)) bytes) result (K.held out.old) (K.held out.new) work.old work.new) }
 
     // When each status comes.
     ensures usage { (result.status ≡ 2) ↔ IsNone (asked (words_of words.now)) }
@@ -140,13 +152,14 @@ pub fn run<S: Source, K: Sink, E: Sink, L: Ledger>(
         → IfSome (asked (words_of words.now)) (λ name. name ≢ S.served source.old
         → (S.hits source.new ≡ S.hits source.old) × HasRisen result.status (S.strays source.old) (S.strays source.new)) }
     ensures unopened { result.status ≡ 2
-        → (S.hits source.new ≡ S.hits source.old) × (S.strays source.new ≡ S.strays source.old) }
+        → (S.hits source.new ≡ S.hits source.old) × (S.strays source.new ≡ S.strays source.old) × (S.left source.new ≡ S.left source.old) }
 
-    ensures no_session_only { IsNone result.session → (result.status ≡ 2) ⊎ (result.status ≡ 5) }
+    ensures no_session_only { IsNone result.session
+        → (result.status ≡ 2) ⊎ ((result.status ≡ 5) × (work.new ≡ work.old) × (S.left source.new ≡ S.left source.old)) }
     ensures no_session_when { result.status ≡ 2 → IsNone result.session }
 {
     let Some(name) = asked(words) else {
-        tell(err, 2);
+        report(err, 2);
         return Ended {
             status: 2,
             session: None,
@@ -154,7 +167,7 @@ pub fn run<S: Source, K: Sink, E: Sink, L: Ledger>(
     };
     let mut session = Session::new(alloc);
     let Ok(mut cells) = Cells::new(alloc) else {
-        tell(err, 5);
+        report(err, 5);
         return Ended {
             status: 5,
             session: Some(session),
@@ -162,7 +175,7 @@ pub fn run<S: Source, K: Sink, E: Sink, L: Ledger>(
     };
     let played = play(alloc, name, &mut cells, &mut session, source, out, work);
     let status = status_of(&played, &session);
-    tell(err, status);
+    report(err, status);
     Ended {
         status,
         session: Some(session),

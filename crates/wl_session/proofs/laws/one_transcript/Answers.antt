@@ -4,7 +4,7 @@ use Rattle.wl_expr.specs.Tree.{Tree}
 use Rattle.wl_syntax.specs.Laws.{OneTree, NotRefused, OneCause, OneAnswer}
 use Rattle.wl_syntax.specs.Lower.{lower}
 use Rattle.wl_syntax.specs.Reads.{IsReadAs}
-use Rattle.wl_session.specs.Reading.{Reading, refused, read, Reads, AllRead, IsRefusedWith}
+use Rattle.wl_session.specs.Reading.{Reading, refused, read, IsReading, AllRead, IsRefusedWith}
 use Rattle.wl_session.specs.Refusal.{syntax_line}
 use Rattle.wl_session.specs.Transcript.{cells_read, transcript}
 use Rattle.wl_session.proofs.laws.one_transcript.Goals as goal
@@ -18,7 +18,7 @@ trees_same bytes e f law a b = a.lowered ∙ ap lower (law bytes a.tree b.tree a
 not_both : (bytes : List ℕ) (e : Tree) (line : List ℕ) → NotRefused → IsReadAs bytes e → IsRefusedWith bytes line → ⊥
 not_both bytes e line law a b = b.is_own (law bytes a.tree a.right a.shallow b.fault b.cause)
 
-read_once : (c : CellText) (r q : Reading) → OneAnswer → Reads c r → Reads c q → r ≡ q
+read_once : (c : CellText) (r q : Reading) → OneAnswer → IsReading c r → IsReading c q → r ≡ q
 read_once (whole bytes) (read e) (read f) law a b = ap (λ t. read t) (trees_same bytes e f law.0 a b)
 read_once (whole bytes) (read e) (refused line) law a b = absurd (not_both bytes e line law.1 a b)
 read_once (whole bytes) (refused line) (read e) law a b = absurd (not_both bytes e line law.1 b a)

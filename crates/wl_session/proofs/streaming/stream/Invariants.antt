@@ -1,5 +1,5 @@
 use Rattle.std.proofs.Common.{◌≡◌, ◌<◌, length}
-use Rattle.wl_session.specs.Sitting.{standing}
+use Rattle.wl_session.specs.SessionView.{state_of}
 use Rattle.wl_session.proofs.Streams.{HasStreamed}
 use Rattle.wl_session.proofs.streaming.stream.Given as goal
 
@@ -11,8 +11,8 @@ invariant-pieces g l = record {
   hits : g.S.Source.hits l.source ≡ g.S.Source.hits l.initial.source;
   strays : g.S.Source.strays l.source ≡ g.S.Source.strays l.initial.source;
   streamed :
-      HasStreamed (g.S.Source.left l.initial.source) (g.S.Source.left l.source) l.cells (standing l.initial.session) (standing l.session) (g.K.Sink.held l.initial.out) (g.K.Sink.held l.out)
-      (length l.initial.work) (length l.work) l.room;
+      HasStreamed (g.S.Source.left l.initial.source) (g.S.Source.left l.source) l.cells (state_of l.initial.session) (state_of l.session) (g.K.Sink.held l.initial.out) (g.K.Sink.held l.out)
+      l.initial.work l.work l.room;
 }
 
 abbrev pub decreases-pieces : goal.decreases-pieces
