@@ -1,9 +1,8 @@
 """Compares wl_syntax with the oracle's parser on random cells.
 
-    python3 tools/syntax_oracle/compare.py ORACLE [COUNT [SEED]]
+    python3 tools/syntax_oracle/compare.py [COUNT [SEED]]
 
-ORACLE is the folder of syntax.py and fuzz_syntax.py, whose random token lists make the cells. A copy of the repository gets
-a program that prints each line's expression in full, or its refusal; `rt try` runs it, unproved.
+The random token lists of tools/oracle make the cells. A copy of the repository gets a program that prints each line's expression in full, or its refusal; `rt try` runs it, unproved.
 """
 import collections
 import pathlib
@@ -18,13 +17,11 @@ HERE = pathlib.Path(__file__).resolve().parent
 ROOT = HERE.parent.parent
 
 
-def load(oracle):
-    sys.path.insert(0, str(oracle))
+def load():
+    sys.path.insert(0, str(HERE.parent / "oracle"))
+    import fuzz_syntax
     import syntax
-    names = {}
-    source = (oracle / "fuzz_syntax.py").read_text().rsplit("main()", 1)[0]
-    exec(compile(source, "fuzz_syntax.py", "exec"), names)
-    return syntax, names
+    return syntax, vars(fuzz_syntax)
 
 
 def full(tree):
@@ -84,10 +81,9 @@ def answers(lines):
 
 
 def main():
-    oracle = pathlib.Path(sys.argv[1])
-    count = int(sys.argv[2]) if len(sys.argv) > 2 else 12000
-    seed = int(sys.argv[3]) if len(sys.argv) > 3 else 7
-    syntax, names = load(oracle)
+    count = int(sys.argv[1]) if len(sys.argv) > 1 else 12000
+    seed = int(sys.argv[2]) if len(sys.argv) > 2 else 7
+    syntax, names = load()
     lines = cells(names, count, seed)
     wanted = [expected(syntax, line) for line in lines]
     got = answers(lines)

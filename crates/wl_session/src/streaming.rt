@@ -54,7 +54,7 @@ pub(crate) fn read_piece<S: Source>(
     room: u64,
 ) -> Result<usize, Failed>
     requires space { 0 < length piece.old }
-    requires piece { length piece.old ≤ PIECE }
+    requires piece { length piece.old ≤ 4096 }
     requires room { 0 < room }
     ensures cause { HasCause (S.faults source.old) (S.faults source.new) result }
     ensures within { IfOk result (λ n. n ≤ room) }
@@ -70,7 +70,6 @@ pub(crate) fn read_piece<S: Source>(
     } else {
         piece.len()
     };
-    prove!(most <= PIECE);
     source.read(&mut piece[..most])
 }
 
