@@ -45,7 +45,19 @@ fn statuses(rt: HostRuntime) -> Result<(), Fail> {
     }
     let mut source = StdSource::new(&rt);
     let unread = b"wl: a word of the command line is not UTF-8\n";
-    ends(&rt, alloc, Err(Unread::NotText), &mut source, (b"", unread, 2))?;
+    ends(
+        &rt,
+        alloc,
+        Err(Unread::NotText),
+        &mut source,
+        (b"", unread, 2),
+    )?;
     let wanting = b"wl: out of memory\n";
-    ends(&rt, alloc, Err(Unread::Memory), &mut source, (b"", wanting, 5))
+    ends(
+        &rt,
+        alloc,
+        Err(Unread::Memory),
+        &mut source,
+        (b"", wanting, 5),
+    )
 }
