@@ -1,4 +1,4 @@
-use Rattle.std.proofs.Common.{◌≡◌, ◌<◌, length}
+use Rattle.std.proofs.Common.{◌≡◌, ◌<◌}
 use Rattle.wl_session.specs.SessionView.{state_of}
 use Rattle.wl_session.proofs.Streams.{HasStreamed}
 use Rattle.wl_session.proofs.streaming.stream.Given as goal

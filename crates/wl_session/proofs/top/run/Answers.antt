@@ -1,6 +1,5 @@
 use Rattle.wl_session.proofs.Broken.{played_broken, played_starved, nothing_begun}
-use Rattle.wl_session.proofs.Answering.{begun_none}
-use Rattle.wl_session.proofs.Ending.{played_begun, played_kept, played_few, none_taken, played_transcript, played_cut_short, played_too_long, too_long_played, read_to_end_played, complete_played, strayed}
+use Rattle.wl_session.proofs.Ending.{played_begun, played_kept, played_few, played_transcript, played_cut_short, played_too_long, too_long_played, read_to_end_played, complete_played, strayed}
 use Rattle.wl_session.proofs.top.run.Goals as goal
 
 pub returns-clause-transcript : goal.returns-clause-transcript
