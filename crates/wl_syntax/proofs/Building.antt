@@ -7,9 +7,10 @@ use Rattle.wl_expr.specs.declared.look.Look.{Look}
 use Rattle.wl_expr.specs.declared.look.Look.TheVariants as look
 use Rattle.wl_expr.specs.declared.stamp.Stamp.{Stamp}
 use Rattle.wl_expr.specs.Look.{looked}
-use Rattle.wl_expr.specs.Stamped.{Stamped, Stampeds, node, symbol, from_list, unstamped, unstampeds}
+use Rattle.wl_expr.specs.Stamped.{Stamped, Stampeds, node, symbol, from_list, plain, plains, unstamped, unstampeds, plain_unstamped, plains_unstampeds}
 use Rattle.wl_expr.specs.Stamped as stamped
 use Rattle.wl_expr.specs.Tree as full
+use Rattle.wl_expr.specs.Tree.{IsWithinLimits}
 use Rattle.wl_syntax.specs.declared.operator.Infix.{Infix}
 use Rattle.wl_syntax.specs.declared.operator.Infix.TheVariants.{Message, Of, Divide, Colon, Into, Tag}
 use Rattle.wl_syntax.specs.declared.chain.Form.{Form}
@@ -30,6 +31,13 @@ unstampeds_all (e ∷ es) = ap (λ us. stamped.more (unstamped e) us) (unstamped
 
 pub node_unstamped : (e h : Stamped) (vs : List Stamped) (g : full.Tree) (es : List full.Tree) → e ≡ node None h (from_list vs) → h ≡ unstamped g → vs ≡ unstamped_all es → e ≡ unstamped (full.node g (full.from_list es))
 node_unstamped e h vs g es p q r = p ∙ ap₂ (λ a b. node None a (from_list b)) q r ∙ ap (λ us. node None (unstamped g) us) (unstampeds_all es)
+
+-- and the tree that it stands for
+pub node_plain : (h : Stamped) (vs : List Stamped) (g : full.Tree) (es : List full.Tree) → h ≡ unstamped g → vs ≡ unstamped_all es → IsWithinLimits (full.node g (full.from_list es)) → IsWithinLimits (full.node (plain h) (plains (from_list vs)))
+node_plain h vs g es p q w =
+    let a : plain h ≡ g = ap plain p ∙ plain_unstamped g in
+    let b : plains (from_list vs) ≡ full.from_list es = ap (λ us. plains (from_list us)) q ∙ ap plains (unstampeds_all es) ∙ plains_unstampeds (full.from_list es) in
+    subst IsWithinLimits (sym (ap₂ (λ x y. full.node x y) a b)) w
 
 pub push_unstamped : (vs : List Stamped) (a : Stamped) (es : List full.Tree) (e : full.Tree) → vs ≡ unstamped_all es → a ≡ unstamped e → vs ++ a ∷ [] ≡ unstamped_all (es ++ e ∷ [])
 push_unstamped vs a es e p q = ap₂ (λ x y. x ++ y ∷ []) p q ∙ sym (map-append unstamped es (e ∷ []))
@@ -61,7 +69,7 @@ tag_other f (Defines d) l r n = absurd (n d refl)
 tag_other f _ l r n = refl
 
 -- the elements of an expression without stamps
-list_unstamped : (vs : List Stamped) (ts : full.Trees) → from_list vs ≡ unstampeds ts → vs ≡ unstamped_all (full.to_list ts)
+pub list_unstamped : (vs : List Stamped) (ts : full.Trees) → from_list vs ≡ unstampeds ts → vs ≡ unstamped_all (full.to_list ts)
 list_unstamped [] full.none e = refl
 list_unstamped (v ∷ vs) (full.more t ts) e = let p : v ≡ unstamped t = cc in let q : from_list vs ≡ unstampeds ts = cc in ap₂ (λ x y. x ∷ y) p (list_unstamped vs ts q)
 list_unstamped [] (full.more t ts) e = absurd (cc)

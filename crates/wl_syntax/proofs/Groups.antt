@@ -112,6 +112,15 @@ capped_depth k l p r = go (continues k) (nests k)
 same_depth : (k : Link) (a b p q c d : ℕ) → a ≡ b → p ≡ q → c ≡ d → joined_depth k a p c ≡ joined_depth k b q d
 same_depth k a b p q c d e f g = ap₂ (λ x y. joined_depth k x p y) e g ∙ ap (λ x. joined_depth k b x d) f
 
+pub join_shallow : (g h : Group) (k : Link) (o : Infix) (n : ℕ) (l r : Tree) → IsGroup g l → IsGroup h r → k ≡ link o g.form → n ≡ joined_depth k g.depth g.pairs h.depth → (g.depth ≤ max_depth → n ≤ max_depth) → depth (between l o r) ≤ max_depth
+join_shallow g h k o n l r x y q d m =
+    let e : k ≡ link o (form l) = q ∙ ap (link o) x.has_form in
+    let s = x.shallow in let i = x.has_depth in
+    let a : n ≡ joined_depth k (depth l) (min (pairs l) (max_depth + 1)) (depth r) = d ∙ same_depth k g.depth (depth l) g.pairs (min (pairs l) (max_depth + 1)) h.depth (depth r) x.has_depth x.has_pairs y.has_depth in
+    let b : n ≤ max_depth = m (omega arith) in
+    let c = (capped_depth k (depth l) (pairs l) (depth r)).1 (subst (λ j. j ≤ max_depth) a b) in
+    subst (λ j. joined_depth j (depth l) (pairs l) (depth r) ≤ max_depth) e (subst (λ j. j ≤ max_depth) (a ∙ c) b)
+
 pub join_limit : (g h : Group) (k : Link) (o : Infix) → k ≡ link o g.form → max_depth < joined_depth k g.depth g.pairs h.depth → JoinsGroups g h code.Deep o
 join_limit g h k o q z l r x y =
     let e : k ≡ link o (form l) = q ∙ ap (link o) x.has_form in

@@ -24,7 +24,7 @@ pub record Lexed (bytes : List ℕ) (ls : List CodeLexeme) (ks : List Token) : T
   pub lexemes : (scanned bytes).tokens ≡ map lexeme_of ls
   pub grammar : ks ≡ map grammar_token (map lexeme_of ls)
 
-lexed_tokens : (bytes : List ℕ) (ls : List CodeLexeme) (ks : List Token) → Lexed bytes ls ks → ks ≡ tokens bytes
+pub lexed_tokens : (bytes : List ℕ) (ls : List CodeLexeme) (ks : List Token) → Lexed bytes ls ks → ks ≡ tokens bytes
 lexed_tokens bytes ls ks h = h.grammar ∙ ap (map grammar_token) (sym h.lexemes)
 
 pub tree_read : (bytes : List ℕ) (ls : List CodeLexeme) (ks : List Token) (ns : List Node) (e : Stamped) → Lexed bytes ls ks → (t : Tree) × IsTreeOf ks t × (ns ≡ polish t) → ((t : Tree) → ns ≡ polish t → (depth t ≤ max_depth) × (e ≡ unstamped (lower t))) → IsReadAs bytes (plain e) × (e ≡ unstamped (plain e))

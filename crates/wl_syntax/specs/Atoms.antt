@@ -1,8 +1,10 @@
 -- What an atom stands for.
-use Rattle.std.specs.Prelude.{ℕ, ℤ, pos, neg_ℤ, Bool, true, false, ◌+◌, ◌-◌, ◌*◌, ◌==◌, List, [], ◌∷◌, length, drop, codes, nat_eq, if◌then◌else◌, encode_utf8_all}
+use Rattle.std.specs.Prelude.{ℕ, ℤ, pos, neg_ℤ, Bool, true, false, ◌==◌, List, [], ◌∷◌, length, drop, codes, nat_eq, if◌then◌else◌, encode_utf8_all}
 use Rattle.std.specs.List.{before_first, after_first, starts_with}
 use Rattle.std.specs.Str.{bytes_eq, chars}
 use Rattle.wl_exact.specs.Fraction.{of_int}
+use Rattle.wl_scan.specs.Forms.{is_mark}
+use Rattle.wl_scan.specs.Literals.{literal_value}
 use Rattle.wl_expr.specs.Tree as full
 use Rattle.wl_expr.specs.Tree.{from_list}
 use Rattle.wl_syntax.specs.Token.{Atom, number, name, pattern, slot, output, text}
@@ -14,17 +16,9 @@ named head args = full.node (full.symbol head) (from_list args)
 abbrev pub whole_number : ℤ → full.Tree
 whole_number z = full.num (of_int z)
 
--- the number that digits write
-abbrev pub value_after : ℕ → List ℕ → ℕ
-value_after n [] = n
-value_after n (b ∷ bs) = value_after (n * 10 + (b - 48)) bs
-
-abbrev pub value_of : List ℕ → ℕ
-value_of digits = value_after 0 digits
-
 -- `#` and `##` alone are the first
 abbrev pub index : List ℕ → full.Tree
-index s = if length s == 0 then whole_number (pos 1) else whole_number (pos (value_of s))
+index s = if length s == 0 then whole_number (pos 1) else whole_number (pos (literal_value s))
 
 abbrev pub slot_tree : List ℕ → full.Tree
 slot_tree s = if starts_with nat_eq s (codes "##") then named (codes "SlotSequence") (index (drop 2 s) ∷ []) else named (codes "Slot") (index (drop 1 s) ∷ [])
@@ -34,10 +28,7 @@ abbrev pub output_tree : List ℕ → full.Tree
 output_tree s =
     if length s == 1 then named (codes "Out") []
     else (if starts_with nat_eq s (codes "%%") then named (codes "Out") (whole_number (neg_ℤ (pos (length s))) ∷ [])
-    else named (codes "Out") (whole_number (pos (value_of (drop 1 s))) ∷ []))
-
-abbrev pub is_mark : ℕ → Bool
-is_mark b = b == 95
+    else named (codes "Out") (whole_number (pos (literal_value (drop 1 s))) ∷ []))
 
 -- one to three `_`, and the head behind them; a `.` is no head
 abbrev pub blank : List ℕ → List ℕ → full.Tree
@@ -75,7 +66,7 @@ abbrev pub string_of : List ℕ → List ℕ
 string_of s = encode_utf8_all (unquoted false (chars s))
 
 abbrev pub atom_tree : Atom → full.Tree
-atom_tree (number s) = whole_number (pos (value_of s))
+atom_tree (number s) = whole_number (pos (literal_value s))
 atom_tree (name s) = full.symbol s
 atom_tree (pattern s) = pattern_tree s
 atom_tree (slot s) = slot_tree s

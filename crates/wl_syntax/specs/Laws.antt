@@ -1,9 +1,11 @@
 -- The laws of the grammar.
-use Rattle.std.specs.Prelude.{ℕ, ℤ, pos, negsuc, true, ◌≡◌, ◌≤◌, ◌↔◌, List, [], ◌∷◌, Some, codes}
+use Rattle.std.specs.Prelude.{ℕ, ◌+◌, ◌*◌, ◌<◌, length, ℤ, pos, negsuc, true, ◌≡◌, ◌≤◌, ◌↔◌, List, [], ◌∷◌, Some, codes}
 use Rattle.wl_expr.specs.Tree as full
 use Rattle.wl_syntax.specs.declared.fault.SyntaxFault.{SyntaxFault}
 use Rattle.wl_syntax.specs.declared.fault.SyntaxFault.TheVariants.{Unclosed, Unexpected, Memory}
+use Rattle.wl_expr.specs.Tree.{weight}
 use Rattle.wl_syntax.specs.Atoms.{named, whole_number}
+use Rattle.wl_syntax.specs.Lower.{lower}
 use Rattle.wl_syntax.specs.Depth.{depth, max_depth}
 use Rattle.wl_syntax.specs.Reads.{HasTree, IsReadAs, Refused}
 use Rattle.wl_syntax.specs.Token.{Token}
@@ -37,6 +39,11 @@ OneCause = (bytes : List ℕ) (f g : SyntaxFault) → Refused bytes f → Refuse
 
 abbrev pub OneAnswer : Type 0
 OneAnswer = OneTree × NotRefused × OneCause
+
+-- The expression of a cell weighs less than 2,000,000, and is at most twice as deep as its tree, and 2 more: none passes the
+-- limits of expressions.
+abbrev pub SmallExpressions : Type 0
+SmallExpressions = (bytes : List ℕ) (t : Tree) → length bytes ≤ 131072 → HasTree bytes t → (weight (lower t) < 2000000) × (full.depth (lower t) ≤ 2 * depth t + 2)
 
 -- worked cells
 

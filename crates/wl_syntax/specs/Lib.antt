@@ -16,6 +16,8 @@ pub mod Depth
 pub mod Atoms
 pub mod Lower
 pub mod Built
+pub mod Fits
+pub mod Small
 pub mod Lowered
 pub mod Lexer
 pub mod Reads

@@ -1,6 +1,6 @@
 -- The table of operators, one line a row. Level 1 binds tightest. The table is this project's own; it follows the
 -- operator table of the Wolfram Language tutorials where it can.
-use Rattle.std.specs.Prelude.{ℕ, Bool, ◌||◌, ◌&&◌, ◌==◌, nat_lt, not, Option, Some, None, List, codes}
+use Rattle.std.specs.Prelude.{ℕ, Bool, true, false, ◌||◌, ◌&&◌, ◌==◌, nat_lt, not, Option, Some, None, List, [], ◌∷◌, codes}
 use Rattle.wl_syntax.specs.declared.operator.Infix.{Infix}
 use Rattle.wl_syntax.specs.declared.operator.Infix.TheVariants.{Message, PatternTest, Of, Map, Apply, MapApply, StringJoin, Power, Divide, Times, Beside, Plus, Minus, Equal, Unequal, Less, LessEqual, Greater, GreaterEqual, SameQ, UnsameQ, And, Or, Alternatives, Colon, StringExpression, Condition, Rule, RuleDelayed, ReplaceAll, ReplaceRepeated, AddTo, SubtractFrom, TimesBy, DivideBy, Into, Set, SetDelayed, UpSet, UpSetDelayed, Tag, Semi}
 use Rattle.wl_syntax.specs.declared.operator.Prefix.{Prefix}
@@ -223,17 +223,17 @@ postfix_sign Function = sign.Ampersand
 postfix_sign Unset = sign.EqualsDot
 
 -- The heads of the full forms. Juxtaposition is a product, and a difference is a sum; `@`, `/`, `:`, `//` and `/:` have forms of
--- their own.
+-- their own, in which these names don't stand.
 abbrev pub infix_name : Infix → List ℕ
 infix_name Message = codes "MessageName"
 infix_name PatternTest = codes "PatternTest"
-infix_name Of = codes ""
+infix_name Of = codes "Prefix"
 infix_name Map = codes "Map"
 infix_name Apply = codes "Apply"
 infix_name MapApply = codes "MapApply"
 infix_name StringJoin = codes "StringJoin"
 infix_name Power = codes "Power"
-infix_name Divide = codes ""
+infix_name Divide = codes "Divide"
 infix_name Times = codes "Times"
 infix_name Beside = codes "Times"
 infix_name Plus = codes "Plus"
@@ -249,7 +249,7 @@ infix_name UnsameQ = codes "UnsameQ"
 infix_name And = codes "And"
 infix_name Or = codes "Or"
 infix_name Alternatives = codes "Alternatives"
-infix_name Colon = codes ""
+infix_name Colon = codes "Optional"
 infix_name StringExpression = codes "StringExpression"
 infix_name Condition = codes "Condition"
 infix_name Rule = codes "Rule"
@@ -260,12 +260,12 @@ infix_name AddTo = codes "AddTo"
 infix_name SubtractFrom = codes "SubtractFrom"
 infix_name TimesBy = codes "TimesBy"
 infix_name DivideBy = codes "DivideBy"
-infix_name Into = codes ""
+infix_name Into = codes "Postfix"
 infix_name Set = codes "Set"
 infix_name SetDelayed = codes "SetDelayed"
 infix_name UpSet = codes "UpSet"
 infix_name UpSetDelayed = codes "UpSetDelayed"
-infix_name Tag = codes ""
+infix_name Tag = codes "TagSet"
 infix_name Semi = codes "CompoundExpression"
 
 abbrev pub prefix_name : Prefix → List ℕ
@@ -282,3 +282,12 @@ postfix_name Repeated = codes "Repeated"
 postfix_name RepeatedNull = codes "RepeatedNull"
 postfix_name Function = codes "Function"
 postfix_name Unset = codes "Unset"
+
+-- the heads are ASCII letters
+abbrev pub all_letters : List ℕ → Bool
+all_letters [] = true
+all_letters (b ∷ bs) = ((nat_lt 64 b && nat_lt b 91) || (nat_lt 96 b && nat_lt b 123)) && all_letters bs
+
+abbrev pub is_head : List ℕ → Bool
+is_head [] = false
+is_head s = all_letters s

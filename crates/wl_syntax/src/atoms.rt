@@ -1,12 +1,17 @@
-//! What an atom stands for. The scan gives each atom the form of its kind, and digits up to 2^127 - 1; anything else, which
-//! no contract rules out here, would be answered as want of memory.
-ghost use Rattle.std.specs.Prelude.{◌≡◌, ◌<◌, ◌^◌, IfOk, SomeIff, pos};
+//! What an atom stands for. The scan gives each atom the form of its kind.
+ghost use Rattle.std.specs.Prelude.{◌≡◌, ◌≢◌, ◌<◌, IfOk, pos, true, length, codes};
 ghost use Rattle.wl_expr.specs.Stamped.{unstamped};
 ghost use Rattle.wl_expr.specs.Tree as full;
+ghost use Rattle.wl_expr.specs.Tree.{IsWithinLimits};
+ghost use Rattle.wl_scan.specs.Forms.{IsWord, IsPattern, IsSlot, IsOut, head_of};
+ghost use Rattle.wl_scan.specs.Literals.{literal_value, HasValue};
 ghost use Rattle.wl_syntax.specs.Atoms as atoms;
 ghost use Rattle.wl_syntax.specs.Chain.{form};
+ghost use Rattle.wl_syntax.specs.Fits.{FitsOf};
 ghost use Rattle.wl_syntax.specs.Lower.{reach};
 ghost use Rattle.wl_syntax.specs.Polish.{atom_of};
+ghost use Rattle.wl_syntax.specs.Small.{IsAtom};
+ghost use Rattle.wl_syntax.specs.Table.{is_head};
 ghost use Rattle.wl_syntax.specs.Tree.{leaf};
 
 use crate::chain::Form;
@@ -16,6 +21,7 @@ use crate::token::Atom;
 use std::alloc::Global;
 use wl_expr::Expr;
 use wl_ports::Memory;
+use wl_scan::literal_value;
 
 /// What stands at the top of an atom.
 pub(crate) fn atom_form(atom: Atom<'_>) -> Form
@@ -37,34 +43,17 @@ pub(crate) fn number_reach(atom: Atom<'_>) -> Option<u16>
     }
 }
 
-/// The number that digits write, where it is below 2^128, as that of each token is.
-fn value_of(digits: &[u8]) -> Option<u128>
-    ensures { SomeIff result (atoms.value_of digits.now < 2 ^ 128) (atoms.value_of digits.now) }
+/// The number that a literal writes, or no digits at all.
+fn number(alloc: Global, literal: &str) -> Result<Expr, Memory>
+    requires { HasValue literal.now }
+    ensures { IfOk result (λ e. e ≡ unstamped (atoms.whole_number (pos (literal_value literal.now)))) }
 {
-    let mut value: u128 = 0;
-    for digit in digits {
-        value = value
-            .checked_mul(10)?
-            .checked_add(digit.saturating_sub(b'0') as u128)?;
-    }
-    Some(value)
-}
-
-fn number(alloc: Global, digits: &str) -> Result<Expr, Memory>
-    ensures { IfOk result (λ e. e ≡ unstamped (atoms.whole_number (pos (atoms.value_of digits.now)))) }
-{
-    match value_of(digits.as_bytes()) {
-        Some(value) => {
-            if value > i128::MAX as u128 {
-                return Err(Memory);
-            }
-            Ok(whole_number(alloc, value as i128)?)
-        }
-        None => Err(Memory),
-    }
+    let value = literal_value(literal);
+    whole_number(alloc, value as i128)
 }
 
 fn index(alloc: Global, digits: &str) -> Result<Expr, Memory>
+    requires { HasValue digits.now }
     ensures { IfOk result (λ e. e ≡ unstamped (atoms.index digits.now)) }
 {
     if digits.is_empty() {
@@ -74,10 +63,12 @@ fn index(alloc: Global, digits: &str) -> Result<Expr, Memory>
 }
 
 fn slot(alloc: Global, token: &str) -> Result<Expr, Memory>
+    requires form { IsSlot token.now }
+    requires fits { IsWithinLimits (atoms.slot_tree token.now) }
     ensures { IfOk result (λ e. e ≡ unstamped (atoms.slot_tree token.now)) }
 {
     let Some(rest) = token.strip_prefix('#') else {
-        return Err(Memory);
+        unreachable!()
     };
     match rest.strip_prefix('#') {
         Some(digits) => {
@@ -92,10 +83,12 @@ fn slot(alloc: Global, token: &str) -> Result<Expr, Memory>
 }
 
 fn output(alloc: Global, token: &str) -> Result<Expr, Memory>
+    requires form { IsOut token.now }
+    requires fits { IsWithinLimits (atoms.output_tree token.now) }
     ensures { IfOk result (λ e. e ≡ unstamped (atoms.output_tree token.now)) }
 {
     let Some(rest) = token.strip_prefix('%') else {
-        return Err(Memory);
+        unreachable!()
     };
     if rest.is_empty() {
         return Ok(named(alloc, "Out", &[])?);
@@ -113,6 +106,9 @@ fn output(alloc: Global, token: &str) -> Result<Expr, Memory>
 }
 
 fn blank(alloc: Global, kind: &str, head: &str) -> Result<Expr, Memory>
+    requires kind { is_head kind.now ≡ true }
+    requires word { 0 < length head.now → head.now ≢ codes "." → IsWord head.now }
+    requires fits { IsWithinLimits (atoms.blank kind.now head.now) }
     ensures { IfOk result (λ e. e ≡ unstamped (atoms.blank kind.now head.now)) }
 {
     if head.is_empty() {
@@ -126,6 +122,8 @@ fn blank(alloc: Global, kind: &str, head: &str) -> Result<Expr, Memory>
 }
 
 fn blanks(alloc: Global, rest: &str) -> Result<Expr, Memory>
+    requires word { 0 < length (head_of rest.now) → head_of rest.now ≢ codes "." → IsWord (head_of rest.now) }
+    requires fits { IsWithinLimits (atoms.blanks rest.now) }
     ensures { IfOk result (λ e. e ≡ unstamped (atoms.blanks rest.now)) }
 {
     match rest.strip_prefix('_') {
@@ -138,6 +136,8 @@ fn blanks(alloc: Global, rest: &str) -> Result<Expr, Memory>
 }
 
 fn bound(alloc: Global, name: &str, pattern: Expr) -> Result<Expr, Memory>
+    requires word { 0 < length name.now → IsWord name.now }
+    requires fits { FitsOf pattern (atoms.bound name.now) }
     ensures { IfOk result (λ e. (p : full.Tree) → pattern ≡ unstamped p → e ≡ unstamped (atoms.bound name.now p)) }
 {
     if name.is_empty() {
@@ -148,10 +148,12 @@ fn bound(alloc: Global, name: &str, pattern: Expr) -> Result<Expr, Memory>
 }
 
 fn pattern(alloc: Global, text: &str) -> Result<Expr, Memory>
+    requires form { IsPattern text.now }
+    requires fits { IsWithinLimits (atoms.pattern_tree text.now) }
     ensures { IfOk result (λ e. e ≡ unstamped (atoms.pattern_tree text.now)) }
 {
     let Some((name, rest)) = text.split_once('_') else {
-        return Err(Memory);
+        unreachable!()
     };
     let blanks = blanks(alloc, rest)?;
     let pattern = bound(alloc, name, blanks)?;
@@ -174,6 +176,7 @@ fn escaped(ch: char) -> char
 }
 
 fn string(alloc: Global, token: &str) -> Result<Expr, Memory>
+    requires { IsWithinLimits (full.text (atoms.string_of token.now)) }
     ensures { IfOk result (λ e. e ≡ unstamped (full.text (atoms.string_of token.now))) }
 {
     let mut unquoted = String::new(alloc);
@@ -193,6 +196,8 @@ fn string(alloc: Global, token: &str) -> Result<Expr, Memory>
 
 /// The expression of an atom.
 pub(crate) fn atom_expr(alloc: Global, atom: Atom<'_>) -> Result<Expr, Memory>
+    requires form { IsAtom (atom_of atom) }
+    requires fits { IsWithinLimits (atoms.atom_tree (atom_of atom)) }
     ensures { IfOk result (λ e. e ≡ unstamped (atoms.atom_tree (atom_of atom.entry))) }
 {
     match atom {

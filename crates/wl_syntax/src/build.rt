@@ -1,13 +1,14 @@
 //! The expression of a list of nodes, built from the leaves up. What is deeper than the limit is not built.
 ghost use Rattle.std.specs.Prelude.{◌≡◌, ◌+◌, ◌<◌, ◌≤◌, IfOk, MatchOption, [], ◌∷◌, map, max};
-ghost use Rattle.wl_syntax.specs.Built.{Are, Is, Pieces, build, tree, listing};
+ghost use Rattle.wl_syntax.specs.Built.{Are, Is, IsGroup, Piece, Pieces, build, tree, calling, listing};
 ghost use Rattle.wl_syntax.specs.Chain as chains;
 ghost use Rattle.wl_syntax.specs.Depth as depths;
 ghost use Rattle.wl_syntax.specs.Depth.{max_depth};
-ghost use Rattle.wl_syntax.specs.Lowered.{IsOne, Wraps, Joins, JoinsGroups, AddsElement, AddsTo, Begins, EndsCall, EndsPart, Takes, Lowers, joined_pairs};
+ghost use Rattle.wl_syntax.specs.Lowered.{IsOne, Wraps, Joins, JoinsGroups, AddsElement, AddsTo, Begins, EndsCall, EndsPart, Takes, Lowers, joined_pairs, with_element, ended};
 ghost use Rattle.wl_syntax.specs.Polish.{atom_of, node_of, polish};
+ghost use Rattle.wl_syntax.specs.Small.{IsSmall, IsSmallPiece, AreSmall, FitsItem, FitItems, FitGroups};
 ghost use Rattle.wl_syntax.specs.Table.{infix_level};
-ghost use Rattle.wl_syntax.specs.Tree.{Tree, none};
+ghost use Rattle.wl_syntax.specs.Tree.{Tree, Elems, none, more};
 ghost use Rattle.wl_syntax.specs.Tree as trees;
 
 use crate::atoms::{atom_expr, atom_form, number_reach};
@@ -78,6 +79,7 @@ fn one(alloc: Global, form: Form, expr: Expr, depth: u16) -> Result<Item, Memory
 }
 
 fn leaf(alloc: Global, atom: Atom<'_>) -> Result<Item, Memory>
+    requires { IsSmall (trees.leaf (atom_of atom)) }
     ensures { IfOk result (λ item. Is item (tree (trees.leaf (atom_of atom.entry)))) }
 {
     let mut items = Vec::new(alloc);
@@ -92,6 +94,7 @@ fn leaf(alloc: Global, atom: Atom<'_>) -> Result<Item, Memory>
 }
 
 fn paren(alloc: Global, item: Item) -> Result<Item, Memory>
+    requires { FitsItem item (λ t. trees.paren t) }
     ensures { IfOk result (λ made. Wraps item made (λ t. trees.paren t)) }
 {
     let Item::Whole(group) = item else {
@@ -105,6 +108,7 @@ fn paren(alloc: Global, item: Item) -> Result<Item, Memory>
 }
 
 fn before(alloc: Global, operator: Prefix, item: Item) -> Result<Item, Memory>
+    requires { FitsItem item (λ t. trees.before operator t) }
     ensures { IfOk result (λ made. Wraps item made (λ t. trees.before operator t)) }
 {
     let Item::Whole(group) = item else {
@@ -127,6 +131,7 @@ fn after_form(operator: Postfix) -> Form
 }
 
 fn after(alloc: Global, operator: Postfix, item: Item) -> Result<Item, Memory>
+    requires { FitsItem item (λ t. trees.after t operator) }
     ensures { IfOk result (λ made. Wraps item made (λ t. trees.after t operator)) }
 {
     let Item::Whole(group) = item else {
@@ -152,6 +157,7 @@ fn last_depth(link: Link, depth: u16) -> Option<u16>
 }
 
 fn last(alloc: Global, item: Item) -> Result<Item, Memory>
+    requires { FitsItem item (λ t. trees.last t) }
     ensures { IfOk result (λ made. Wraps item made (λ t. trees.last t)) }
 {
     let Item::Whole(group) = item else {
@@ -193,6 +199,7 @@ fn joined_pairs(operator: Infix, pairs: u16, right: u16, depth: u16) -> u16
 }
 
 fn between(alloc: Global, operator: Infix, left: Item, right: Item) -> Result<Item, Memory>
+    requires { FitItems left right (λ l r. trees.between l operator r) }
     ensures { IfOk result (λ made. Joins left right made (λ l r. trees.between l operator r)) }
 {
     let Item::Whole(left) = left else {
@@ -205,6 +212,7 @@ fn between(alloc: Global, operator: Infix, left: Item, right: Item) -> Result<It
 }
 
 fn join(alloc: Global, operator: Infix, left: Group, right: Group) -> Result<Item, Memory>
+    requires { FitGroups left right operator }
     ensures { IfOk result (λ made. JoinsGroups left right made operator) }
 {
     let link = joining(operator, left.form);
@@ -244,6 +252,7 @@ fn list(alloc: Global) -> Result<Item, Memory>
 }
 
 fn begin_call(alloc: Global, head: Group, element: Group) -> Result<Item, Memory>
+    requires { (f : Tree) × (x : Tree) × IsGroup head f × IsGroup element x × IsSmall f × IsSmall x }
     ensures { IfOk result (λ made. Begins head element made) }
 {
     let mut elements = Vec::new(alloc);
@@ -256,6 +265,7 @@ fn begin_call(alloc: Global, head: Group, element: Group) -> Result<Item, Memory
 }
 
 fn add_element(alloc: Global, args: Args, element: Group) -> Result<Item, Memory>
+    requires { (x : Tree) × IsGroup element x × IsSmall x }
     ensures { IfOk result (λ made. AddsTo args element made) }
 {
     let Args {
@@ -272,6 +282,7 @@ fn add_element(alloc: Global, args: Args, element: Group) -> Result<Item, Memory
 }
 
 fn element(alloc: Global, below: Item, top: Item) -> Result<Item, Memory>
+    requires { (p : Piece) × (x : Tree) × Is below p × Is top (tree x) × IsSmallPiece (with_element p x) }
     ensures { IfOk result (λ made. AddsElement below top made) }
 {
     let Item::Whole(top) = top else {
@@ -285,6 +296,7 @@ fn element(alloc: Global, below: Item, top: Item) -> Result<Item, Memory>
 }
 
 fn call(alloc: Global, item: Item) -> Result<Item, Memory>
+    requires { (p : Piece) × Is item p × IsSmall (ended p) }
     ensures { IfOk result (λ made. EndsCall item made) }
 {
     match item {
@@ -308,6 +320,7 @@ fn call(alloc: Global, item: Item) -> Result<Item, Memory>
 }
 
 fn part(alloc: Global, item: Item) -> Result<Item, Memory>
+    requires { (f : Tree) × (xs : Elems) × (t : Tree) × Is item (calling f (more xs t)) × IsSmall (trees.part f xs t) }
     ensures { IfOk result (λ made. EndsPart item made) }
 {
     let Item::Args(args) = item else {
@@ -334,6 +347,7 @@ fn take(stack: &mut Vec<Item>) -> Item
 
 /// Reads one node.
 fn step(alloc: Global, stack: &mut Vec<Item>, node: Node<'_>) -> Result<(), Memory>
+    requires { (ps : Pieces) × Are stack.old.items ps × AreSmall (build ps (node_of node)) }
     ensures { IfOk result (λ _. (ps : Pieces) → Are stack.old.items ps → Are stack.new.items (build ps (node_of node.entry))) }
 {
     match node {
@@ -411,6 +425,7 @@ impl From<Memory> for BuildFault {
 
 /// The expression of the tree with these nodes.
 pub(crate) fn build_expr(alloc: Global, nodes: &[Node<'_>]) -> Result<Expr, BuildFault>
+    requires { (t : Tree) × (map node_of nodes.now ≡ polish t) × IsSmall t }
     ensures { (t : Tree) → map node_of nodes.now ≡ polish t → Lowers t result }
 {
     let mut stack = Vec::new(alloc);

@@ -32,7 +32,7 @@ fn scan<'a>(alloc: Global, text: &'a str) -> Result<Vec<Lexeme<'a>>, SyntaxFault
 }
 
 /// The expression of the one right tree of a cell; else the fault is the first cause that holds, and a byte's place in it
-/// counts from 1. `Memory` says that memory ran out.
+/// counts from 1. `Memory` says that memory ran out, and nothing else.
 pub fn parse(alloc: Global, bytes: &[u8]) -> Result<Expr, SyntaxFault>
     requires { length bytes.now ≤ 131072 }
     ensures read { IfOk result (λ e. IsReadAs bytes.now (plain e)) }

@@ -1,5 +1,5 @@
 //! Laws of the grammar, each the contract of a function without parameters.
-ghost use Rattle.wl_syntax.specs.Laws.{OneReading, ParseIs, ViableIs, OneAnswer, WorkedCells};
+ghost use Rattle.wl_syntax.specs.Laws.{OneReading, ParseIs, ViableIs, OneAnswer, SmallExpressions, WorkedCells};
 
 /// Two right trees that read as the same tokens are the same tree.
 pub fn one_reading()
@@ -24,4 +24,9 @@ pub fn one_answer()
 /// What a few cells are read as.
 pub fn worked_cells()
     ensures { WorkedCells }
+{}
+
+/// The expression of a cell is within the limits of expressions.
+pub fn small_expressions()
+    ensures { SmallExpressions }
 {}

@@ -18,10 +18,5 @@ mod terms;
 mod tests;
 mod token;
 
-pub use build::MAX_DEPTH;
 pub use cell::parse;
-pub use chain::{Form, Link, Tagged};
 pub use fault::SyntaxFault;
-pub use operator::{Infix, Postfix, Prefix, Sign};
-pub use tags::Tagging;
-pub use token::{Atom, Node, Token};

@@ -4,6 +4,7 @@ ghost use Rattle.wl_expr.specs.Stamped.{unstamped, symbol as stamped_symbol};
 ghost use Rattle.wl_expr.specs.Tree as full;
 ghost use Rattle.wl_syntax.specs.Atoms.{whole_number, named};
 ghost use Rattle.wl_syntax.specs.Built.{unstamped_all, IsNear, IsNest, each};
+ghost use Rattle.wl_syntax.specs.Fits.{FitsOf, FitsOfTwo, FitsOfAll, FitsNested, FitChained, FitJoined};
 ghost use Rattle.wl_syntax.specs.Lower as lower;
 ghost use Rattle.wl_syntax.specs.Table as table;
 
@@ -28,6 +29,7 @@ pub(crate) fn whole_number(alloc: Global, n: i128) -> Result<Expr, Memory>
 
 /// The expression of a tree of this form.
 pub(crate) fn whole(alloc: Global, form: Form, items: &[Expr]) -> Result<Expr, Memory>
+    requires { FitsOfAll items.now (lower.whole form) }
     ensures { IfOk result (λ e. (es : List full.Tree) → items.now ≡ unstamped_all es → e ≡ unstamped (lower.whole form es)) }
 {
     match form {
@@ -90,6 +92,7 @@ fn product_reach(link: Link, reach: Option<u16>) -> Option<u16>
 
 /// The expression with the number that lies this many first elements deep negated.
 fn negated_at(alloc: Global, e: &Expr, steps: u16) -> Result<Expr, Memory>
+    requires { FitsOf e.now (λ t. t) }
     ensures { IfOk result (λ r. (t : full.Tree) → e.now ≡ unstamped t → r ≡ unstamped (lower.negated_at steps t)) }
 {
     match e.view() {
@@ -130,6 +133,7 @@ fn is_product(form: Form) -> bool
 
 /// The negative of a tree.
 fn negative(alloc: Global, form: Form, reach: Option<u16>, items: &[Expr]) -> Result<Expr, Memory>
+    requires { FitsOfAll items.now (lower.negative form reach) }
     ensures { IfOk result (λ e. (es : List full.Tree) → items.now ≡ unstamped_all es → e ≡ unstamped (lower.negative form reach es)) }
 {
     match reach {
@@ -157,6 +161,7 @@ pub(crate) fn prefixed(
     reach: Option<u16>,
     items: &[Expr],
 ) -> Result<Expr, Memory>
+    requires { FitsOfAll items.now (lower.prefixed operator form reach) }
     ensures { IfOk result (λ e. (es : List full.Tree) → items.now ≡ unstamped_all es → e ≡ unstamped (lower.prefixed operator form reach es)) }
 {
     match operator {
@@ -176,6 +181,7 @@ fn operand_of(
     reach: Option<u16>,
     items: &[Expr],
 ) -> Result<Expr, Memory>
+    requires { FitsOfAll items.now (lower.operand_of operator form reach) }
     ensures { IfOk result (λ e. (es : List full.Tree) → items.now ≡ unstamped_all es → e ≡ unstamped (lower.operand_of operator form reach es)) }
 {
     match operator {
@@ -205,6 +211,7 @@ fn tagged_name(tagged: Tagged) -> &'static str
 
 /// A definition for a tag.
 fn tag(alloc: Global, tagged: Tagged, left: Expr, right: &Expr) -> Result<Expr, Memory>
+    requires { FitsOfTwo left right.now (lower.tag_of tagged) }
     ensures { IfOk result (λ e. (l r : full.Tree) → left ≡ unstamped l → right.now ≡ unstamped r
         → e ≡ unstamped (lower.tag_of tagged l r)) }
 {
@@ -226,6 +233,7 @@ fn pair_of(
     left: Expr,
     right: Expr,
 ) -> Result<Expr, Memory>
+    requires { FitsOfTwo left right (lower.pair_of operator left_form right_form) }
     ensures { IfOk result (λ e. (l r : full.Tree) → left ≡ unstamped l → right ≡ unstamped r
         → e ≡ unstamped (lower.pair_of operator left_form right_form l r)) }
 {
@@ -251,6 +259,7 @@ fn pair_of(
 }
 
 fn colon(alloc: Global, left_form: Form, left: Expr, right: Expr) -> Result<Expr, Memory>
+    requires { FitsOfTwo left right (lower.colon_of left_form) }
     ensures { IfOk result (λ e. (l r : full.Tree) → left ≡ unstamped l → right ≡ unstamped r
         → e ≡ unstamped (lower.colon_of left_form l r)) }
 {
@@ -291,6 +300,7 @@ fn separated(alloc: Global, comparison: Infix, operands: &[Expr]) -> Result<Vec<
 
 /// Pairs of the operands, nested to the left.
 fn nested_after(alloc: Global, sameness: Infix, first: Expr, rest: &[Expr]) -> Result<Expr, Memory>
+    requires { FitsNested sameness first rest.now }
     ensures { IfOk result (λ e. IsNest sameness first rest.now e) }
 {
     let mut pair = first;
@@ -301,6 +311,7 @@ fn nested_after(alloc: Global, sameness: Infix, first: Expr, rest: &[Expr]) -> R
 }
 
 fn nested(alloc: Global, sameness: Infix, operands: &[Expr]) -> Result<Expr, Memory>
+    requires { FitsOfAll operands.now (lower.nested sameness) }
     ensures { IfOk result (λ e. (es : List full.Tree) → operands.now ≡ unstamped_all es → e ≡ unstamped (lower.nested sameness es)) }
 {
     match operands.split_first() {
@@ -360,6 +371,7 @@ fn chained(
     left: Vec<Expr>,
     operand: Expr,
 ) -> Result<Vec<Expr>, Memory>
+    requires { FitChained operator link left_form left.items operand }
     ensures { IfOk result (λ v. (es : List full.Tree) (r : full.Tree) → left.items ≡ unstamped_all es → operand ≡ unstamped r
         → v.items ≡ unstamped_all (lower.chained operator link es (lower.whole left_form es) r)) }
 {
@@ -398,6 +410,7 @@ pub(crate) fn joined(
     right_reach: Option<u16>,
     right: &[Expr],
 ) -> Result<Vec<Expr>, Memory>
+    requires { FitJoined operator link left_form left.items right_form right_reach right.now }
     ensures { IfOk result (λ v. (es fs : List full.Tree) → left.items ≡ unstamped_all es → right.now ≡ unstamped_all fs
         → v.items ≡ unstamped_all (lower.joined operator link left_form right_form es (lower.whole left_form es) (lower.whole right_form fs) (lower.operand_of operator right_form right_reach fs))) }
 {
@@ -417,6 +430,7 @@ pub(crate) fn joined(
 
 /// The expression of a tree and a last `;`.
 pub(crate) fn last(alloc: Global, link: Link, form: Form, items: Vec<Expr>) -> Result<Expr, Memory>
+    requires { FitsOfAll items.items (λ es. named (codes "CompoundExpression") (lower.statements link es (lower.whole form es) ++ full.symbol (codes "Null") ∷ [])) }
     ensures { IfOk result (λ e. (es : List full.Tree) → items.items ≡ unstamped_all es
         → e ≡ unstamped (named (codes "CompoundExpression") (lower.statements link es (lower.whole form es) ++ full.symbol (codes "Null") ∷ []))) }
 {

@@ -126,6 +126,12 @@ fn cells_and_answers(rt: HostRuntime) -> Result<(), Fail> {
             "{#, ##, #2, %, %%, %7}",
             "List[Slot[1], SlotSequence[1], Slot[2], Out[], Out[-2], Out[7]]",
         ),
+        ("16^^ff + 2^^101", "Plus[255, 5]"),
+        ("0016^^0F", "15"),
+        ("36^^Zz", "1295"),
+        ("16 ^^ ff", "Unexpected 5"),
+        ("37^^1", "Scan 1"),
+        ("8^^78", "Scan 5"),
         ("1.5", "Scan 1"),
         ("", "Unclosed"),
     ];

@@ -11,3 +11,6 @@ returns-then-eq c = rw (← c.is_empty.ensures, c.if-is_empty.false, ← c.eq.en
 
 pub returns : goal.returns
 returns c = rw (← c.is_empty.ensures, c.if-is_empty.false, ← c.eq.ensures, c.if-eq.false) (c.in_ok-named-3.ensures (full.symbol c.args.head.now ∷ []) (items_one _ (full.symbol c.args.head.now) c.in_ok-head.ensures))
+
+pub named-requires-2-clause-fits : goal.named-requires-2-clause-fits
+named-requires-2-clause-fits c = (full.symbol c.args.head.now ∷ [], items_one _ (full.symbol c.args.head.now) c.in_ok-head.ensures, rw (← c.is_empty.ensures, c.if-is_empty.false, ← c.eq.ensures, c.if-eq.false) at c.requires.fits)

@@ -1,4 +1,4 @@
-use Rattle.std.proofs.Common.{refl, ap, ◌∙◌}
+use Rattle.std.proofs.Common.{refl, ap, ◌∙◌, subst, sym, ◌<◌, length, arith}
 use Rattle.wl_expr.specs.Stamped.{text}
 use Rattle.wl_syntax.proofs.Strings.{unquoting_begins, next_escaped, next_backslash, next_quote, next_plain, unquoting_ends}
 use Rattle.wl_syntax.proofs.atoms.string.Goals as goal
@@ -20,3 +20,8 @@ loop-ch-preserved c = next_quote _ _ _ _ _ _ c.if-is_escaped.false c.loop-ch.inv
 
 pub returns : goal.returns
 returns c = c.in_ok-text.ensures ∙ ap (λ s. text s) (c.as_str.ensures.value ∙ unquoting_ends _ _ _ _ c.loop-ch.invariant c.in-None.ensures.steps.0.0)
+
+pub text-requires : goal.text-requires
+text-requires c =
+    let l = c.requires.light in
+    subst (λ s. length s < 4000000) (sym (c.as_str.ensures.value ∙ unquoting_ends _ _ _ _ c.loop-ch.invariant c.in-None.ensures.steps.0.0)) (omega arith)
