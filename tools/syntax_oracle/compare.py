@@ -2,7 +2,8 @@
 
     python3 tools/syntax_oracle/compare.py [COUNT [SEED]]
 
-The random token lists of tools/oracle make the cells. A copy of the repository gets a program that prints each line's expression in full, or its refusal; `rt try` runs it, unproved.
+The random token lists of tools/oracle make the cells; in some of them a literal in another base stands, right or wrong, for one token.
+A copy of the repository gets a program that prints each line's expression in full, or its refusal; `rt try` runs it, unproved.
 """
 import collections
 import pathlib
@@ -37,13 +38,19 @@ def full(tree):
 
 def expected(syntax, text):
     try:
-        return full(syntax.parse(text.encode(), False))
+        return full(syntax.parse(text.encode()))
     except syntax.SyntaxFault as fault:
         if fault.kind in ("Unclosed", "NotUtf8", "TooDeep"):
             return fault.kind
         if fault.kind == "Unexpected":
             return f"Unexpected {fault.at}"
         return f"Scan {fault.at}"
+
+
+def literal(r):
+    base = r.choice(["2", "8", "10", "16", "36", "016", "0", "1", "37"])
+    digits = "".join(r.choice("01179abfzAFZ") for _ in range(r.choice([0, 1, 2, 2, 3, 5, 30])))
+    return base + "^^" + digits + r.choice(["", "", "", "."])
 
 
 def cells(names, count, seed):
@@ -55,7 +62,10 @@ def cells(names, count, seed):
         else:
             size = r.choice([1, 2, 3, 4, 5, 6, 7, 8, 9, 12])
             tokens = names["random_list"](r, r.choice(names["POOLS"]), size)
-        text = (" " if r.random() < 0.8 else "").join(t.text for t in tokens)
+        texts = [t.text for t in tokens]
+        if r.random() < 0.3:
+            texts[r.randrange(len(texts))] = literal(r)
+        text = (" " if r.random() < 0.8 else "").join(texts)
         if "\n" not in text:
             made.append(text)
     return made
