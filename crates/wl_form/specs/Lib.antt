@@ -1,0 +1,10 @@
+pub mod Operators
+pub mod Heads
+pub mod Shown
+pub mod Table
+pub mod Texts
+pub mod Boxes
+pub mod Laws
+pub mod Pages
+pub mod Words
+pub mod Writing
