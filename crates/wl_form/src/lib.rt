@@ -16,6 +16,7 @@ mod writer;
 pub use boxed::boxes;
 pub use full::full_form;
 pub use input::input_form;
+pub use operator::{Infix, Marks, Postfix, Prefix, Row};
 
 #[cfg(test)]
 mod tests;

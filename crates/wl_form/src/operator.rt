@@ -5,7 +5,7 @@ ghost use Rattle.wl_form.specs.Shown.{slot_marks};
 
 /// Operators between two operands.
 #[derive(Clone, Copy)]
-pub(crate) enum Infix {
+pub enum Infix {
     Message,
     PatternTest,
     Map,
@@ -46,14 +46,14 @@ pub(crate) enum Infix {
 
 /// Operators before an operand.
 #[derive(Clone, Copy)]
-pub(crate) enum Prefix {
+pub enum Prefix {
     Negate,
     Not,
 }
 
 /// Operators behind an operand.
 #[derive(Clone, Copy)]
-pub(crate) enum Postfix {
+pub enum Postfix {
     Factorial,
     Repeated,
     RepeatedNull,
@@ -62,7 +62,7 @@ pub(crate) enum Postfix {
 
 /// One to three `_`.
 #[derive(Clone, Copy)]
-pub(crate) enum Marks {
+pub enum Marks {
     One,
     Two,
     Three,
@@ -72,7 +72,7 @@ pub(crate) enum Marks {
 /// more, or between exactly two; by one before or behind the only element; as statements, as blanks, as a pattern, a default, a slot
 /// of one `#` or two, the name of a message or a part; or as a call.
 #[derive(Clone, Copy)]
-pub(crate) enum Row {
+pub enum Row {
     List,
     Sum,
     Product,

@@ -1,0 +1,11 @@
+pub mod Well
+pub mod Signs
+pub mod Cut
+pub mod Classes
+pub mod Words
+pub mod Cutting
+pub mod Lowering
+pub mod Back
+pub mod Rowed
+pub mod Table
+pub mod Again
