@@ -1,9 +1,8 @@
 -- The strings of the boxes are the text.
-use Rattle.std.proofs.Common.{ℕ, ◌≡◌, Bool, true, false, cond, List, [], ◌∷◌, ◌++◌, refl, sym, ap, ◌∙◌, append_assoc, append-nil, codes}
+use Rattle.std.proofs.Common.{ℕ, ◌≡◌, List, [], ◌∷◌, ◌++◌, refl, sym, ap, ◌∙◌, append_assoc, append-nil, codes}
 use Rattle.std.proofs.lemmas.Bool.{cond_both}
-use Rattle.wl_expr.specs.Tree as tree
-use Rattle.wl_expr.specs.Tree.{Tree, Trees, from_list}
-use Rattle.wl_form.specs.Boxes.{Piece, between, boxed, strings, all_strings, strings_of, has_box, string_before, merged, box_of, operand_pieces, pieces, elem_pieces, link_pieces, boxes}
+use Rattle.wl_expr.specs.Tree.{Tree, from_list}
+use Rattle.wl_form.specs.Boxes.{Piece, between, boxed, strings, all_strings, strings_of, has_box, string_before, merged, box_of, operand_pieces, pieces, elem_pieces, link_pieces}
 use Rattle.wl_form.specs.Laws.{BoxesHoldTheText}
 use Rattle.wl_form.specs.Operators.{infix_text, prefix_text, postfix_text}
 use Rattle.wl_form.specs.Shown.{Shown, number, name, string, pattern, slot, parens, braces, call, part, before, after, chain, ended, Elems, none, more, Links, nothing, behind, text_of, elems_text, links_text, comma_after}

@@ -1,11 +1,11 @@
 -- The pieces and the levels of what is printed, and what the writer has written.
-use Rattle.std.proofs.Common.{ℕ, Bool, true, false, not, cond, ◌≡◌, ◌≢◌, ◌<◌, ◌≤◌, ◌+◌, ◌==◌, List, [], ◌∷◌, ◌++◌, length, get_or, refl, sym, ap, ◌∙◌, append_assoc, append-nil, arith, subst, codes}
+use Rattle.std.proofs.Common.{ℕ, Bool, true, false, not, cond, ◌≡◌, ◌<◌, ◌+◌, ◌==◌, List, [], ◌∷◌, ◌++◌, length, refl, sym, ap, ◌∙◌, append_assoc, append-nil, arith, codes}
 use Rattle.std.specs.Prelude.{nat_lt, nat_le, ◌&&◌, if◌then◌else◌, Option, Some, None, unsigned_abs}
 use Rattle.wl_ports.specs.Name.{is_name}
-use Rattle.std.proofs.lemmas.Bool.{cond_both, cond-true, cond-false, lt-ltb}
+use Rattle.std.proofs.lemmas.Bool.{cond_both}
 use Rattle.std.proofs.lemmas.Bool.Decides.{nat_tests}
 use Rattle.wl_exact.specs.Fraction.{Fraction}
-use Rattle.wl_expr.specs.Stamped.{Stamped, plain, plains, from_list, unstamped}
+use Rattle.wl_expr.specs.Stamped.{Stamped, plain, plains, from_list}
 use Rattle.wl_expr.specs.Tree as tree
 use Rattle.wl_expr.specs.Tree.{Tree, Trees}
 use Rattle.wl_form.specs.declared.operator.Infix.{Infix}
@@ -21,11 +21,11 @@ use Rattle.wl_form.specs.declared.operator.Row.TheVariants as row
 use Rattle.wl_form.specs.Boxes.{Piece, between, boxed, box_of, operand_pieces, pieces, elem_pieces, link_pieces}
 use Rattle.wl_form.specs.Heads.{row_of}
 use Rattle.wl_form.specs.Operators.{infix_level, infix_text, prefix_level, prefix_text, postfix_level, postfix_text, takes_equal}
-use Rattle.wl_form.specs.Pages.{Page, writing, boxing, large, opened, put_text, put_box, taken}
-use Rattle.wl_form.specs.Shown.{Shown, level, number, name, string, pattern, slot, parens, braces, call, part, before, after, chain, ended, Elems, none, more, is_negative, is_below_zero, number_level, Links, nothing, behind, operand, operand_or_equal, right_operand, links_level, comma_after}
+use Rattle.wl_form.specs.Pages.{Page, writing, boxing, large, opened, put_text, taken}
+use Rattle.wl_form.specs.Shown.{Shown, level, number, name, string, pattern, slot, parens, braces, call, part, before, after, chain, ended, Elems, none, more, is_negative, is_below_zero, Links, nothing, behind, operand, operand_or_equal, right_operand, links_level, comma_after}
 use Rattle.wl_form.specs.Table.{Showing, showing, showings, joined, links_after, terms_after, added, taken_off, opposite, number_showing, product_by, Turn, opposed, dropped, stays, turn_of, first_number, by_row, elems, elems_after, part_of, or_else, blanks_of, blanks_by, named_blanks, default_by, default_named, default_of, default_of_pattern, pattern_of, optional_of, slot_of, message_of, colon, is_symbol, statements, ends_in_null}
 use Rattle.wl_form.specs.Words.{message_shown}
-use Rattle.wl_form.specs.Writing.{opening, closing, placed, further_pieces, term_pieces, terms_pieces, more_pieces, row_pieces, leaf, Closed, call_shown, pair_shown, before_shown, after_shown, sum_shown, part_shown}
+use Rattle.wl_form.specs.Writing.{opening, closing, placed, further_pieces, term_pieces, terms_pieces, more_pieces, row_pieces, Closed, call_shown, pair_shown, before_shown, after_shown, sum_shown, part_shown}
 use Rattle.wl_form.proofs.Pages.{taken_append}
 
 -- what is printed stands in no parentheses

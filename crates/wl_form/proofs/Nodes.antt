@@ -1,30 +1,21 @@
 -- What is printed of a node, row by row.
-use Rattle.std.proofs.Common.{ℕ, Bool, true, false, not, cond, ◌≡◌, ◌≢◌, ◌<◌, ◌≤◌, ◌+◌, ◌==◌, List, [], ◌∷◌, ◌++◌, length, get_or, refl, sym, ap, ◌∙◌, arith, subst, codes}
-use Rattle.std.specs.Prelude.{ℤ, pos, negsuc, zero, suc, unsigned_abs, ◌&&◌, if◌then◌else◌, Option, Some, None}
-use Rattle.std.specs.Str.{bytes_eq}
-use Rattle.std.proofs.lemmas.Bool.{cond_both, cond-true, cond-false, ne_eqb}
-use Rattle.wl_exact.specs.Fraction.{Fraction}
+use Rattle.std.proofs.Common.{ℕ, Bool, true, false, not, ◌≡◌, ◌≢◌, ◌<◌, ◌≤◌, ◌+◌, ◌==◌, List, [], ◌∷◌, ◌++◌, length, get_or, refl, sym, ap, ◌∙◌, arith, subst}
+use Rattle.std.specs.Prelude.{unsigned_abs, ◌&&◌, if◌then◌else◌, Option, Some, None}
 use Rattle.wl_ports.specs.Name.{is_name}
 use Rattle.wl_expr.specs.Stamped.{Stamped, plain, plains, from_list}
 use Rattle.wl_expr.specs.Tree as tree
 use Rattle.wl_expr.specs.Tree.{Tree, Trees, depths}
-use Rattle.wl_form.specs.declared.leaves.Turn.{Turn as CodeTurn}
-use Rattle.wl_form.specs.declared.leaves.Turn.TheVariants as code_turn
 use Rattle.wl_form.specs.declared.operator.Infix.{Infix}
-use Rattle.wl_form.specs.declared.operator.Infix.TheVariants.{Times, Colon, Semi}
-use Rattle.wl_form.specs.declared.operator.Prefix.TheVariants.{Negate, Not}
+use Rattle.wl_form.specs.declared.operator.Infix.TheVariants.{Colon, Semi}
+use Rattle.wl_form.specs.declared.operator.Prefix.TheVariants.{Not}
 use Rattle.wl_form.specs.declared.operator.Postfix.{Postfix}
 use Rattle.wl_form.specs.declared.operator.Row.{Row}
 use Rattle.wl_form.specs.declared.operator.Row.TheVariants as row
-use Rattle.wl_form.specs.Boxes.{Piece, between, boxed, box_of, pieces, operand_pieces}
 use Rattle.wl_form.specs.Heads.{row_of}
-use Rattle.wl_form.specs.Operators.{infix_level, infix_text}
-use Rattle.wl_form.specs.Pages.{Page, put_text, taken}
-use Rattle.wl_form.specs.Shown.{Shown, level, name, number, slot, chain, ended, nothing, behind, operand, is_negative, is_below_zero}
-use Rattle.wl_form.specs.Table.{Showing, showing, showings, added, by_row, joined, links_after, all_but_last, statements, ends_in_null, product_by, product, Turn, opposed, dropped, stays, turn_of, first_number, opposite, number_showing, is_minus_one, is_number, is_symbol, or_else, blanks_of, colon}
-use Rattle.wl_form.specs.Words.{word_of, number_slot, message_shown}
-use Rattle.wl_form.specs.Writing.{placed, term_pieces, node_showing, node_shown, call_shown, pair_shown, before_shown, after_shown, sum_shown, part_shown, statements_shown, product_showing, HasTurn, is_null, last_is_null, LastNull, operator_behind, pair_operator, IsManyRow}
-use Rattle.wl_form.proofs.Levels.{operand_placed, showing_bare, placed_below, joined_level, bare_pieces}
+use Rattle.wl_form.specs.Shown.{Shown, name, slot, ended, nothing, operand, is_negative}
+use Rattle.wl_form.specs.Table.{showing, showings, by_row, joined, links_after, all_but_last, statements, ends_in_null, is_symbol, or_else, colon}
+use Rattle.wl_form.specs.Words.{word_of, message_shown}
+use Rattle.wl_form.specs.Writing.{node_shown, call_shown, pair_shown, before_shown, after_shown, sum_shown, part_shown, statements_shown, product_showing, is_null, last_is_null, LastNull, operator_behind, pair_operator, IsManyRow}
 
 abbrev shown_by : Row → Tree → Trees → Shown
 shown_by r h ts = (by_row r ts (showings ts) (call_shown (showing h) (showings ts))).whole

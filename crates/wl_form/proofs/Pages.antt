@@ -1,5 +1,5 @@
 -- What the writer's page holds after pieces of a text.
-use Rattle.std.proofs.Common.{ℕ, Bool, true, false, cond, ◌≡◌, ◌≢◌, ◌≤◌, ◌<◌, ◌+◌, ◌⊎◌, inl, inr, List, [], ◌∷◌, ◌++◌, length, map, refl, sym, ap, ◌∙◌, append_assoc, append-nil, arith, codes, subst}
+use Rattle.std.proofs.Common.{ℕ, Bool, true, false, ◌≡◌, ◌≢◌, ◌⊎◌, inl, inr, List, [], ◌∷◌, ◌++◌, map, refl, sym, ap, ◌∙◌, append_assoc, append-nil, arith, codes, subst}
 use Rattle.std.specs.Prelude.{◌&&◌, nat_le, if◌then◌else◌, Option, Some, None}
 use Rattle.std.proofs.lemmas.Bool.{cond_both, cond-true, cond-false, le-leb, leb-true}
 use Rattle.std.proofs.lemmas.List.{map-append}
@@ -9,7 +9,7 @@ use Rattle.wl_expr.specs.Tree as tree
 use Rattle.wl_expr.specs.Tree.{Tree, Trees, IsWithinLimits, AreSmall, weight, weights, depth, depths}
 use Rattle.wl_expr.proofs.Small.{large_args}
 use Rattle.wl_form.specs.Boxes.{Piece, between, boxed, strings, strings_of, has_box, string_before, merged, box_of}
-use Rattle.wl_form.specs.Pages.{Line, blank_line, Page, writing, boxing, large, page_of, fits, fitted, all_parts, then_box, with_box, named_node, parts_with, finished_by, finished, put_text, lined, put_box, taken, opened, Closes}
+use Rattle.wl_form.specs.Pages.{Line, Page, writing, boxing, large, page_of, fits, fitted, all_parts, then_box, named_node, parts_with, finished_by, put_text, lined, put_box, taken, opened, Closes}
 use Rattle.wl_form.specs.Writing.{Closed, closing}
 use Rattle.wl_form.specs.declared.page.Kind.{Kind}
 use Rattle.wl_form.specs.declared.page.Kind.TheVariants.{Text, Boxes, Large}

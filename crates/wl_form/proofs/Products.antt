@@ -1,23 +1,23 @@
 -- How a product is printed, and how as later term of a sum.
-use Rattle.std.proofs.Common.{ℕ, Bool, true, false, not, cond, ◌≡◌, ◌≢◌, ◌<◌, ◌+◌, ◌==◌, List, [], ◌∷◌, ◌++◌, length, get_or, refl, sym, ap, ◌∙◌, arith, subst, codes}
+use Rattle.std.proofs.Common.{ℕ, Bool, true, false, ◌≡◌, ◌≢◌, ◌<◌, ◌==◌, List, [], ◌∷◌, ◌++◌, length, get_or, refl, sym, ap, ◌∙◌, arith, codes}
 use Rattle.std.specs.Prelude.{ℤ, pos, negsuc, zero, suc, unsigned_abs, ◌&&◌, if◌then◌else◌}
-use Rattle.std.proofs.lemmas.Bool.{cond_both, cond-true, cond-false, ne_eqb}
+use Rattle.std.proofs.lemmas.Bool.{cond-true, cond-false, ne_eqb}
 use Rattle.wl_exact.specs.Fraction.{Fraction}
 use Rattle.wl_expr.specs.Stamped.{Stamped, plain, plains, from_list}
 use Rattle.wl_expr.specs.Tree as tree
 use Rattle.wl_expr.specs.Tree.{Tree, Trees}
 use Rattle.wl_form.specs.declared.leaves.Turn.{Turn as CodeTurn}
 use Rattle.wl_form.specs.declared.leaves.Turn.TheVariants as code_turn
-use Rattle.wl_form.specs.declared.operator.Infix.TheVariants.{Times, Plus, Minus}
+use Rattle.wl_form.specs.declared.operator.Infix.TheVariants.{Times}
 use Rattle.wl_form.specs.declared.operator.Prefix.TheVariants.{Negate}
 use Rattle.wl_form.specs.declared.operator.Row.TheVariants as row
 use Rattle.wl_form.specs.declared.operator.Row.{Row}
-use Rattle.wl_form.specs.Boxes.{Piece, between, boxed, box_of, pieces, operand_pieces}
+use Rattle.wl_form.specs.Boxes.{between, boxed, box_of, pieces, operand_pieces}
 use Rattle.wl_form.specs.Heads.{row_of}
-use Rattle.wl_form.specs.Operators.{infix_level, infix_text}
+use Rattle.wl_form.specs.Operators.{infix_text}
 use Rattle.wl_form.specs.Pages.{Page, opened, put_text, taken}
-use Rattle.wl_form.specs.Shown.{Shown, level, number, chain, nothing, behind, operand, is_negative, is_below_zero, number_text}
-use Rattle.wl_form.specs.Table.{Showing, showing, showings, added, taken_off, by_row, joined, links_after, product_by, product, Turn, opposed, dropped, stays, turn_of, first_number, opposite, number_showing, is_minus_one, is_number}
+use Rattle.wl_form.specs.Shown.{Shown, number, chain, nothing, operand, is_negative, is_below_zero, number_text}
+use Rattle.wl_form.specs.Table.{Showing, showing, showings, added, taken_off, by_row, joined, links_after, product_by, Turn, opposed, dropped, stays, turn_of, first_number, opposite, number_showing, is_minus_one, is_number}
 use Rattle.wl_form.specs.Writing.{Closed, placed, leaf, further_pieces, term_pieces, node_showing, node_shown, call_shown, before_shown, product_showing, HasTurn, IsProduct}
 use Rattle.wl_form.proofs.Levels.{operand_placed, showing_bare, all_bare, placed_below, joined_level, links_after_pieces, boxed_row, two_steps}
 

@@ -1,7 +1,6 @@
 -- Nodes whose number of elements isn't that of a word.
 use Rattle.std.proofs.Common.{ℕ, Bool, ◌≡◌, ◌≢◌, List, [], ◌∷◌, length, refl}
-use Rattle.std.specs.Prelude.{Option, Some, None}
-use Rattle.wl_expr.specs.Stamped as stamped
+use Rattle.std.specs.Prelude.{None}
 use Rattle.wl_expr.specs.Stamped.{Stamped, plain, plains, from_list}
 use Rattle.wl_expr.specs.Tree as tree
 use Rattle.wl_expr.specs.Tree.{Tree, Trees}

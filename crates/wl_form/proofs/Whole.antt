@@ -1,12 +1,12 @@
 -- The page at the end.
-use Rattle.std.proofs.Common.{ℕ, Bool, true, false, ◌≡◌, ◌⊎◌, inl, inr, List, [], ◌∷◌, ◌++◌, refl, sym, ap, ◌∙◌, subst, cond}
+use Rattle.std.proofs.Common.{Bool, true, false, ◌≡◌, ◌⊎◌, inl, inr, List, [], ◌∷◌, refl, sym, ap, ◌∙◌, subst}
 use Rattle.std.specs.Prelude.{Option, Some, None, if◌then◌else◌}
 use Rattle.std.proofs.lemmas.Bool.{cond-true, cond-false}
 use Rattle.wl_expr.specs.Passed.{IsFrom, AreFrom}
 use Rattle.wl_expr.specs.Stamped.{Stamped, plain, unstamped, unstampeds, plain_unstamped}
 use Rattle.wl_expr.specs.Tree as tree
 use Rattle.wl_expr.specs.Tree.{Tree, Trees, IsWithinLimits}
-use Rattle.wl_form.specs.Boxes.{Piece, boxed, strings, boxes, box_of, pieces}
+use Rattle.wl_form.specs.Boxes.{strings, boxes}
 use Rattle.wl_form.specs.Pages.{Page, writing, boxing, large, blank_line, fits, fitted, lined, put_box, taken}
 use Rattle.wl_form.specs.Table.{shown}
 use Rattle.wl_form.specs.Texts.{input_text}

@@ -3,7 +3,7 @@ use Rattle.std.specs.Prelude.{ℕ, Bool, ◌≡◌, ◌⊎◌, refl, ◌&&◌, n
 use Rattle.wl_expr.specs.Tree.{Tree, weight, depth}
 use Rattle.std.proofs.Common.{inl, inr}
 use Rattle.std.specs.Coded.{Coded, code_by, coded_ℕ, coded_list, coded×, coded⊎, coded_option}
-use Rattle.wl_expr.specs.Stamped.{Stamped, text, symbol, node, none, more, from_list, plain, unstamped, stamped_code}
+use Rattle.wl_expr.specs.Stamped.{Stamped, text, symbol, node, from_list, plain, unstamped, stamped_code}
 use Rattle.wl_form.specs.declared.page.Kind.{Kind}
 use Rattle.wl_form.specs.declared.page.Kind.TheVariants as kind
 use Rattle.wl_form.specs.Boxes.{Piece, between, boxed, strings}

@@ -1,5 +1,5 @@
 -- Nodes that are printed as one word.
-use Rattle.std.specs.Prelude.{ℕ, Bool, true, false, ◌&&◌, ◌==◌, not, List, [], ◌∷◌, codes, if◌then◌else◌, Option, Some, None, unsigned_abs}
+use Rattle.std.specs.Prelude.{ℕ, Bool, true, false, ◌&&◌, ◌==◌, not, List, [], if◌then◌else◌, Option, Some, None, unsigned_abs}
 use Rattle.wl_ports.specs.Name.{is_name}
 use Rattle.wl_expr.specs.Tree as tree
 use Rattle.wl_expr.specs.Tree.{Tree, Trees}

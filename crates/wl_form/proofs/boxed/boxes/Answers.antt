@@ -1,5 +1,4 @@
-use Rattle.std.proofs.Common.{rules, ap, ◌∙◌, ◌≡◌, sym}
-use Rattle.std.specs.Prelude.{Some, None}
+use Rattle.std.proofs.Common.{ap, ◌∙◌, ◌≡◌, sym}
 use Rattle.wl_expr.specs.Stamped.{plain, unstamped}
 use Rattle.wl_form.specs.Boxes.{boxes}
 use Rattle.wl_form.specs.Pages.{fitted, taken}

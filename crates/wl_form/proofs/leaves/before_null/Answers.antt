@@ -1,4 +1,4 @@
-use Rattle.std.proofs.Common.{rules, ◌≡◌, ◌++◌, ◌∷◌, [], ◌∙◌, sym, false}
+use Rattle.std.proofs.Common.{rules, ◌≡◌, ◌++◌, ◌∷◌, [], ◌∙◌, false}
 use Rattle.wl_expr.specs.Stamped.{plain}
 use Rattle.wl_form.specs.Writing.{is_null}
 use Rattle.wl_form.proofs.Nodes.{null_last}

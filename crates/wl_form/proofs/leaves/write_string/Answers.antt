@@ -1,7 +1,6 @@
 use Rattle.std.proofs.Common.{◌∷◌, []}
 use Rattle.wl_form.specs.Boxes.{between}
-use Rattle.wl_form.specs.Shown.{quoted, number_text}
-use Rattle.wl_form.specs.Table.{opposite}
+use Rattle.wl_form.specs.Shown.{quoted}
 use Rattle.wl_form.proofs.Levels.{boxed_row}
 use Rattle.wl_form.proofs.leaves.write_string.Goals as goal
 

@@ -1,4 +1,4 @@
-use Rattle.std.proofs.Common.{refl, sym, rules, ◌≡◌, ◌≢◌, [], Bool, true}
+use Rattle.std.proofs.Common.{refl, rules}
 use Rattle.std.specs.Str.{chars}
 use Rattle.unicode_ident.proofs.Computing.{unicode_ident}
 use Rattle.wl_form.proofs.Pages.{unparted}

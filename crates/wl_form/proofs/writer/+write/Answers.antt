@@ -1,11 +1,10 @@
-use Rattle.std.proofs.Common.{rules, ◌≡◌, ◌≢◌, [], ◌∷◌, ◌<◌, ◌≤◌, length, arith, sym, ap, ◌∙◌, refl, true, false}
+use Rattle.std.proofs.Common.{rules, ◌≡◌, ◌≢◌, [], ◌∷◌, ◌<◌, length, arith, sym, refl, false}
 use Rattle.std.specs.Prelude.{Some, None}
 use Rattle.wl_expr.specs.Stamped.{plain, plains, from_list}
 use Rattle.wl_expr.specs.Tree as tree
 use Rattle.wl_form.specs.Heads.{row_of}
 use Rattle.wl_form.specs.Table.{added, showings, turn_of, dropped, opposed, stays}
 use Rattle.wl_form.specs.declared.operator.Row.TheVariants as row
-use Rattle.wl_form.specs.declared.operator.Infix.TheVariants.{Times, Semi}
 use Rattle.wl_form.specs.Words.{word_of}
 use Rattle.wl_form.specs.Writing.{LastNull, last_is_null, node_showing, node_shown, pair_operator}
 use Rattle.wl_form.proofs.Pages.{pushed_text, closed_bare}

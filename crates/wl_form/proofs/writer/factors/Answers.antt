@@ -2,7 +2,7 @@ use Rattle.std.proofs.Common.{rules, ◌≡◌, ◌<◌, ◌∷◌, length}
 use Rattle.wl_expr.specs.Stamped.{plain}
 use Rattle.wl_form.specs.Heads.{row_of}
 use Rattle.wl_form.specs.declared.operator.Row.TheVariants as row
-use Rattle.wl_form.proofs.Products.{is_product, short_added, node_added}
+use Rattle.wl_form.proofs.Products.{is_product, short_added}
 use Rattle.wl_form.proofs.writer.factors.Goals as goal
 
 pub returns-in-Some : goal.returns-in-Some

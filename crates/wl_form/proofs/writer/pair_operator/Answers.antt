@@ -1,4 +1,4 @@
-use Rattle.std.proofs.Common.{rules, ◌≡◌, length}
+use Rattle.std.proofs.Common.{rules}
 use Rattle.wl_form.proofs.Nodes.{no_pair, pair_at}
 use Rattle.wl_form.proofs.writer.pair_operator.Goals as goal
 
