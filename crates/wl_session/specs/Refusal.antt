@@ -2,7 +2,7 @@
 use Rattle.std.specs.Prelude.{ℕ, List, [], ◌++◌, codes}
 use Rattle.std.specs.Fmt.{decimal}
 use Rattle.wl_scan.specs.declared.token.ScanKind.{ScanKind}
-use Rattle.wl_scan.specs.declared.token.ScanKind.TheVariants.{Real, LongNumber, BadChar, BadEscape, OpenString, OpenComment}
+use Rattle.wl_scan.specs.declared.token.ScanKind.TheVariants.{Real, LongNumber, BadChar, BadEscape, OpenString, OpenComment, Base, Digit}
 use Rattle.wl_scan.specs.declared.token.ScanFault.{ScanFault}
 use Rattle.wl_syntax.specs.declared.fault.SyntaxFault.{SyntaxFault}
 use Rattle.wl_syntax.specs.declared.fault.SyntaxFault.TheVariants as syntax
@@ -16,6 +16,8 @@ scan_text BadChar = codes "Refused: character"
 scan_text BadEscape = codes "Refused: escape"
 scan_text OpenString = codes "Refused: open string"
 scan_text OpenComment = codes "Refused: open comment"
+scan_text Base = codes "Refused: base"
+scan_text Digit = codes "Refused: digit"
 
 -- a text, and the place that it speaks of
 abbrev pub place_line : List ℕ → ℕ → List ℕ

@@ -64,5 +64,7 @@ fn scan_text(kind: ScanKind) -> &'static str
         ScanKind::BadEscape => "Refused: escape",
         ScanKind::OpenString => "Refused: open string",
         ScanKind::OpenComment => "Refused: open comment",
+        ScanKind::Base => "Refused: base",
+        ScanKind::Digit => "Refused: digit",
     }
 }

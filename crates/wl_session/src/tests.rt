@@ -57,13 +57,18 @@ fn sums(rt: HostRuntime) -> Result<(), Fail> {
 
 #[test]
 fn refusals(rt: HostRuntime) -> Result<(), Fail> {
-    let rows: [(&[u8], &str, u8); 3] = [
+    let rows: [(&[u8], &str, u8); 4] = [
         (
             b"1.5\n1 + 1\nf[1,",
             "Refused: real number at byte 1.\nOut[1]= 2\nRefused: unfinished input.\n",
             1,
         ),
         (b"\xff\n", "Refused: not UTF-8.\n", 1),
+        (
+            b"16^^ff + 2^^101\n37^^1\n8^^78\n36^^Zz\n",
+            "Out[1]= 260\nRefused: base at byte 1.\nRefused: digit at byte 5.\nOut[2]= 1295\n",
+            1,
+        ),
         (
             b"(* c *)\n1.5\n\"a\\q\"\n\"a\n\"\n#a\n(* *\n",
             "Refused: real number at byte 9.\nRefused: escape at byte 3.\nRefused: not supported yet.\nRefused: character at byte 1.\nRefused: open comment at byte 1.\n",
