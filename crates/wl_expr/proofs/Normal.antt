@@ -1,12 +1,12 @@
 -- Each tree made proper: numbers and texts that are none are replaced. On proper trees nothing changes, so that the canonical order becomes an order of all trees.
-use Rattle.std.proofs.Common.{◌≡◌, ℕ, ◌<◌, nat_lt, ◌^◌, Bool, true, false, ◌&&◌, List, [], pos, refl, unsigned_abs, arith}
+use Rattle.std.proofs.Common.{◌≡◌, ℕ, nat_lt, ◌^◌, Bool, true, false, ◌&&◌, List, [], pos, refl, unsigned_abs}
 use Rattle.std.proofs.lemmas.Bool.Decides.{Decides-and, Decides-ltb}
 use Rattle.std.proofs.lemmas.Str.{IsUtf8-nil, IsUtf8-from_is_utf8, is_utf8-from_IsUtf8}
 use Rattle.std.specs.Bool.{Decides}
 use Rattle.std.specs.Cmp.{unsigned_Decides}
-use Rattle.std.specs.Prelude.{nat_eq, codes, if◌then◌else◌}
+use Rattle.std.specs.Prelude.{nat_eq, codes}
 use Rattle.std.specs.Str.{is_utf8, IsUtf8}
-use Rattle.wl_exact.specs.Fraction.{Fraction, IsNumber, IsReduced, of_int}
+use Rattle.wl_exact.specs.Fraction.{Fraction, IsNumber, of_int}
 use Rattle.wl_exact.specs.Gcd.{gcd}
 use Rattle.wl_ports.specs.Name.{is_name, IsName}
 use Rattle.wl_ports.proofs.MadeNames.{ascii_name}

@@ -1,11 +1,11 @@
 -- The size of a tree that is built of parts: what is put together, put in order or built anew of no larger parts is no larger.
-use Rattle.std.proofs.Common.{◌≡◌, ℕ, ◌+◌, ◌≤◌, max, Bool, true, false, List, [], ◌∷◌, ◌++◌, map, arith, le_trans, ap, ◌∙◌, sym}
+use Rattle.std.proofs.Common.{◌≡◌, ℕ, ◌+◌, max, Bool, true, false, List, [], ◌∷◌, ◌++◌, map, arith, le_trans, ap}
 use Rattle.std.specs.Ordering.{is_lt}
 use Rattle.wl_expr.specs.Order.{canonical_order}
 use Rattle.wl_expr.specs.Size.{weight_of, depth_of, AreNoLarger, IsNoLarger}
 use Rattle.wl_expr.specs.Sorted.{placed, sorted_on, sorted}
 use Rattle.wl_expr.specs.Stamped.{Stamped, plain, plains, from_list as from}
-use Rattle.wl_expr.specs.Tree.{Tree, IsWithinLimits, node, from_list, weight, weights, depth, depths}
+use Rattle.wl_expr.specs.Tree.{Tree, IsWithinLimits, weight, weights, depth, depths}
 use Rattle.wl_expr.specs.Words.{applied}
 use Rattle.wl_expr.proofs.Parts.{plains_from_list}
 

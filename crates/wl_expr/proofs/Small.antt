@@ -1,5 +1,5 @@
 -- What isn't within the limits is part of nothing that is.
-use Rattle.std.proofs.Common.{◌≡◌, ◌≤◌, ℕ, zero, suc, ◌<◌, Bool, true, false, inl, inr, sym, ◌∙◌, List, [], ◌∷◌, length, get_or, nat_le, arith}
+use Rattle.std.proofs.Common.{◌≡◌, ◌≤◌, ℕ, zero, suc, ◌<◌, true, false, inl, inr, sym, ◌∙◌, List, [], ◌∷◌, length, get_or, nat_le, arith}
 use Rattle.std.proofs.lemmas.Bool.Decides.{Decides-and, leb_tells}
 use Rattle.std.specs.Bool.{Decides}
 use Rattle.wl_expr.specs.Stamped.{Stamped, plain, plains, from_list as from}

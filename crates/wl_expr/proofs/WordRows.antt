@@ -1,15 +1,15 @@
 -- Worked rows of the words on trees, and of the hash: its values are another program's.
-use Rattle.std.proofs.Common.{◌≡◌, ◌≤◌, Bool, true, false, List, [], ◌∷◌, refl, pos, negsuc}
+use Rattle.std.proofs.Common.{◌≡◌, List, [], ◌∷◌, refl, pos, negsuc}
 use Rattle.std.specs.Prelude.{codes, Some, None}
 use Rattle.wl_exact.specs.Fraction.{of_int}
 use Rattle.wl_exact.specs.Span.{Span, next, ended, first, following}
 use Rattle.wl_expr.specs.Hash.{tree_hash}
-use Rattle.wl_expr.specs.Same.{same, first_of_each}
-use Rattle.wl_expr.specs.Sorted.{sorted, is_sorted}
+use Rattle.wl_expr.specs.Same.{first_of_each}
+use Rattle.wl_expr.specs.Sorted.{sorted}
 use Rattle.wl_expr.specs.Spans.{span_of}
-use Rattle.wl_expr.specs.Special.{special, blank, named, ordinary, optional}
-use Rattle.wl_expr.specs.Tree.{Tree, num, text, symbol, node}
-use Rattle.wl_expr.specs.Words.{form, applied, natural, list_of, head_of, elements, leftmost, names_of, count_of, is_int, head_name}
+use Rattle.wl_expr.specs.Special.{special, named, ordinary}
+use Rattle.wl_expr.specs.Tree.{Tree, num, text, symbol}
+use Rattle.wl_expr.specs.Words.{form, applied, natural, head_of, leftmost, count_of, head_name}
 
 abbrev x : Tree
 x = symbol (codes "x")

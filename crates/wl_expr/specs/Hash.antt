@@ -1,5 +1,5 @@
 -- A number of 64 bits for each tree, which two different trees seldom share. It is this project's own, and its constants are the first digits of pi: each part is mixed in by a product that wraps, whose high half is folded onto the low one.
-use Rattle.std.specs.Prelude.{ℕ, ◌*◌, ◌/◌, ◌%◌, ◌^◌, List, bit_xor, fold, unsigned_abs, if◌then◌else◌}
+use Rattle.std.specs.Prelude.{ℕ, ◌*◌, ◌/◌, ◌%◌, ◌^◌, bit_xor, fold, unsigned_abs, if◌then◌else◌}
 use Rattle.std.specs.Int.{is_negative}
 use Rattle.wl_exact.specs.Fraction.{Fraction}
 use Rattle.wl_expr.specs.Tree.{Tree, Trees, num, text, symbol, node, none, more}
