@@ -1,0 +1,32 @@
+-- Stamps that are handed on, at the front and at the end of a list; and the trees of a list.
+use Rattle.std.proofs.Common.{◌≡◌, List, [], ◌∷◌, ◌++◌, Result, refl, ap, ◌∙◌, subst, sym}
+use Rattle.std.proofs.lemmas.List.Elements.{All-head, All-tail, All-push}
+use Rattle.wl_expr.specs.Passed.{IsFrom}
+use Rattle.wl_expr.specs.Stamped.{Stamped, plain}
+use Rattle.wl_expr.specs.Tree.{Tree}
+use Rattle.wl_expr.specs.declared.fault.ExprFault.{ExprFault}
+use Rattle.wl_control.specs.Asks.{eval}
+use Rattle.wl_control.specs.Places.{AllFrom, IsAnswer, junction_by, joined_by, trees}
+use Rattle.wl_control.specs.declared.place.Connective.{Connective}
+use Rattle.wl_control.specs.declared.place.Connective.TheVariants.{And, Or}
+use Rattle.wl_control.specs.declared.place.Step.{Step}
+
+-- the first of some elements and the rest
+pub front_from : (ms : List Stamped) (xs ys : List Stamped) (x : Stamped) → xs ≡ x ∷ ys → AllFrom ms xs → IsFrom ms x × AllFrom ms ys
+front_from ms xs ys x e h =
+    let all : AllFrom ms (x ∷ ys) = subst (AllFrom ms) e h in
+    (All-head (IsFrom ms) x ys all, All-tail (IsFrom ms) x ys all)
+
+-- one more at the end
+pub push_from : (ms : List Stamped) (xs ys : List Stamped) (x : Stamped) → ys ≡ xs ++ x ∷ [] → AllFrom ms xs → IsFrom ms x → AllFrom ms ys
+push_from ms xs ys x e h here = subst (AllFrom ms) (sym e) (All-push (IsFrom ms) xs x h here)
+
+-- ---- the element that And and Or come to
+
+element_of : (k : Connective) (left es : List Tree) (e : Tree) → junction_by k left (e ∷ es) ≡ eval e (λ v. joined_by k left es v)
+element_of And left es e = refl
+element_of Or left es e = refl
+
+pub element_asked : (k : Connective) (left : List Tree) (xs ys : List Stamped) (x : Stamped) (r : Result Step ExprFault) → xs ≡ x ∷ ys
+    → IsAnswer (eval (plain x) (λ v. joined_by k left (trees ys) v)) r → IsAnswer (junction_by k left (trees xs)) r
+element_asked k left xs ys x r e h = subst (λ a. IsAnswer a r) (sym (ap (λ zs. junction_by k left (trees zs)) e ∙ element_of k left (trees ys) (plain x))) h

@@ -1,0 +1,8 @@
+-- For use from other crates: which answers are waited for behind a question.
+pub mod Waiting
+-- For this crate's own proofs.
+mod Counts
+mod Elements
+mod Faults
+mod Passes
+mod WorkedRows

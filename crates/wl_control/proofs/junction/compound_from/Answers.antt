@@ -1,0 +1,8 @@
+use Rattle.wl_control.proofs.Elements.{front_from}
+use Rattle.wl_control.proofs.junction.compound_from.Goals as goal
+
+pub returns-in-Some-clause-answer : goal.returns-in-Some-clause-answer
+returns-in-Some-clause-answer c = rw c.in-Some.ensures.items c.evaluate.ensures.answer
+
+pub returns-in-Some-clause-passed : goal.returns-in-Some-clause-passed
+returns-in-Some-clause-passed c ms f h = c.evaluate.ensures.passed ms f (front_from ms _ _ _ c.in-Some.ensures.items h)

@@ -1,0 +1,10 @@
+-- The definition: what a row asks, one question after the other, and the rows.
+pub mod Asks
+pub mod Branches
+pub mod Loops
+pub mod Table
+-- What contracts say of a cursor: what it waits for, and the expressions that it holds.
+pub mod Stand
+pub mod Places
+pub mod Kinds
+pub mod Cursors

@@ -1,0 +1,199 @@
+-- What the place of a row stands for, and the expressions that it holds.
+use Rattle.std.specs.Prelude.{◌≡◌, ⊤, Bool, List, ◌∷◌, map, option_map, Option, Some, None, Result, Err, IfOk, codes, if◌then◌else◌}
+use Rattle.std.specs.List.{All}
+use Rattle.wl_expr.specs.Passed.{IsFrom}
+use Rattle.wl_expr.specs.Stamped.{Stamped, plain}
+use Rattle.wl_expr.specs.Tree.{Tree, IsWithinLimits}
+use Rattle.wl_expr.specs.declared.fault.ExprFault.{ExprFault}
+use Rattle.wl_expr.specs.declared.fault.ExprFault.TheVariants.{Large}
+use Rattle.wl_control.specs.Asks.{Asks, gives, stays, eval, eval_catching, matches, by_truth, Caught, value, broke, continued}
+use Rattle.wl_control.specs.Branches.{which_from, switch_from, left_over, joined, conjunction, disjunction, compound_row}
+use Rattle.wl_control.specs.Loops.{loop_from, part, after_condition, after_part}
+use Rattle.wl_control.specs.Stand.{Question, evaluate, test, assign, begin_pass, overflow, result, unchanged, Answer, start, came, matched, went, Stand, starts, for_value, for_end, for_match, for_leave, over, asked, behind, IsTooLarge}
+use Rattle.wl_control.specs.declared.place.Ask.{Ask}
+use Rattle.wl_control.specs.declared.place.Ask.TheVariants as ask
+use Rattle.wl_control.specs.declared.place.Caught as code
+use Rattle.wl_control.specs.declared.place.Caught.TheVariants as caught
+use Rattle.wl_control.specs.declared.place.Last.{Last}
+use Rattle.wl_control.specs.declared.place.Last.TheVariants as last
+use Rattle.wl_control.specs.declared.place.Step.{Step}
+use Rattle.wl_control.specs.declared.place.Place.{Place}
+use Rattle.wl_control.specs.declared.place.Place.TheVariants as place
+use Rattle.wl_control.specs.declared.place.Row.{Row}
+use Rattle.wl_control.specs.declared.place.Row.TheVariants as row
+use Rattle.wl_control.specs.declared.place.Valued.{Valued}
+use Rattle.wl_control.specs.declared.place.Valued.TheVariants as valued
+use Rattle.wl_control.specs.declared.place.Ended.{Ended}
+use Rattle.wl_control.specs.declared.place.Ended.TheVariants as end
+use Rattle.wl_control.specs.declared.place.Loop.{Loop}
+use Rattle.wl_control.specs.declared.place.Switch.{Switch}
+use Rattle.wl_control.specs.declared.place.Junction.{Junction}
+use Rattle.wl_control.specs.declared.place.Connective.{Connective}
+use Rattle.wl_control.specs.declared.place.Connective.TheVariants.{And, Or}
+
+-- ---- questions and answers, stamps apart
+
+abbrev pub plain_ask : Ask → Question
+plain_ask (ask.Eval e) = evaluate (plain e)
+plain_ask (ask.Matches e p) = test (plain e) (plain p)
+plain_ask (ask.Let v) = assign (plain v)
+plain_ask ask.Pass = begin_pass
+plain_ask ask.Overflow = overflow
+plain_ask (ask.Done e) = result (plain e)
+plain_ask ask.Unchanged = unchanged
+
+abbrev pub plain_caught : code.Caught → Caught
+plain_caught (caught.Value e) = value (plain e.now)
+plain_caught caught.Broke = broke
+plain_caught caught.Continued = continued
+
+abbrev pub told : Last → Answer
+told last.Start = start
+told (last.Value e) = came (value (plain e.now))
+told (last.Matched b) = matched b
+told last.Went = went
+told last.Broke = came broke
+told last.Continued = came continued
+
+-- ---- what a place stands for
+
+abbrev pub trees : List Stamped → List Tree
+trees ts = map plain ts
+
+abbrev pub junction_by : Connective → List Tree → List Tree → Asks
+junction_by And left es = conjunction left es
+junction_by Or left es = disjunction left es
+
+abbrev pub left_by : Connective → List Tree → Tree
+left_by And left = left_over (codes "And") (codes "True") left
+left_by Or left = left_over (codes "Or") (codes "False") left
+
+abbrev pub junction_asks : Junction → Asks
+junction_asks j = junction_by j.connective (trees j.left.items) (trees j.rest.items)
+
+abbrev pub switch_asks : Switch → Bool → Asks
+switch_asks s b = if b then gives (plain s.chosen) else switch_from (plain s.subject) (trees s.rest.items)
+
+abbrev pub loop_asks : Loop → Asks
+loop_asks l = loop_from l.passes (plain l.condition) (option_map plain l.body) (option_map plain l.step)
+
+-- what comes with the step of a loop, with its body and with its condition
+abbrev pub step_asks : Loop → Asks
+step_asks l = part (option_map plain l.step) (loop_asks l)
+
+abbrev pub body_asks : Loop → Asks
+body_asks l = part (option_map plain l.body) (step_asks l)
+
+abbrev pub condition_asks : Loop → Asks
+condition_asks l = eval_catching (plain l.condition) (λ u. after_condition u (body_asks l) (step_asks l))
+
+-- ---- each place
+
+-- what the value of an element of And or Or leads to
+abbrev pub joined_by : Connective → List Tree → List Tree → Tree → Asks
+joined_by And left es v = joined (codes "False") (codes "True") left v (λ more. conjunction more es)
+joined_by Or left es v = joined (codes "True") (codes "False") left v (λ more. disjunction more es)
+
+abbrev pub row_asks : Row → Asks
+row_asks row.Stays = stays
+row_asks (row.Gives e) = gives (plain e)
+row_asks (row.Which es) = which_from (trees es.items)
+row_asks (row.Switch e es) = switch_from (plain e) (trees es.items)
+row_asks (row.Junction j) = junction_asks j
+row_asks (row.Compound e es) = compound_row (plain e ∷ trees es.items)
+row_asks (row.While l) = loop_asks l
+row_asks (row.For s l) = eval (plain s) (λ v. loop_asks l)
+
+abbrev pub value_asks : Valued → Tree → Asks
+value_asks (valued.Which v es) u = by_truth u (gives (plain v)) (which_from (trees es.items)) stays
+value_asks (valued.Switch s) q = matches (plain s.subject) q (switch_asks s)
+value_asks (valued.Junction j) v = joined_by j.connective (trees j.left.items) (trees j.rest.items) v
+value_asks (valued.Compound e es) v = compound_row (plain e ∷ trees es.items)
+value_asks (valued.For l) v = loop_asks l
+
+abbrev pub end_asks : Ended → Caught → Asks
+end_asks (end.Condition l) u = after_condition u (body_asks l) (step_asks l)
+end_asks (end.Body l) u = after_part u (step_asks l)
+end_asks (end.Step l) u = after_part u (loop_asks l)
+
+abbrev pub stand_at : Place → Stand
+stand_at (place.Start r) = starts (row_asks r)
+stand_at (place.Value v) = for_value (value_asks v)
+stand_at (place.End e) = for_end (end_asks e)
+stand_at (place.Match s) = for_match (switch_asks s)
+stand_at (place.Leave l) = for_leave (λ _. condition_asks l)
+stand_at place.Over = over
+
+-- the step is what is asked next, which isn't too large; and Large comes only where it is
+pub record IsAnswer (a : Asks) (r : Result Step ExprFault) : Type 0 where
+  pub next : IfOk r (λ s. (asked a ≡ Some (plain_ask s.ask)) × (stand_at s.place ≡ behind a) × ¬ IsTooLarge a)
+  pub large : r ≡ Err Large → IsTooLarge a
+
+-- the expression is this tree, and Large comes only where that is too large
+pub record IsMade (t : Tree) (r : Result Stamped ExprFault) : Type 0 where
+  pub tree : IfOk r (λ e. plain e ≡ t)
+  pub large : r ≡ Err Large → ¬ IsWithinLimits t
+
+-- ---- what a place holds
+
+abbrev pub AskIsFrom : List Stamped → Ask → Type 0
+AskIsFrom ms (ask.Eval e) = IsFrom ms e
+AskIsFrom ms (ask.Matches e p) = IsFrom ms e × IsFrom ms p
+AskIsFrom ms (ask.Let v) = IsFrom ms v
+AskIsFrom ms ask.Pass = ⊤
+AskIsFrom ms ask.Overflow = ⊤
+AskIsFrom ms (ask.Done e) = IsFrom ms e
+AskIsFrom ms ask.Unchanged = ⊤
+
+abbrev pub LastIsFrom : List Stamped → Last → Type 0
+LastIsFrom ms (last.Value e) = IsFrom ms e.now
+LastIsFrom ms l = ⊤
+
+abbrev pub AllFrom : List Stamped → List Stamped → Type 0
+AllFrom ms ts = All (IsFrom ms) ts
+
+abbrev pub JunctionIsFrom : List Stamped → Junction → Type 0
+JunctionIsFrom ms j = AllFrom ms j.left.items × AllFrom ms j.rest.items
+
+abbrev pub SwitchIsFrom : List Stamped → Switch → Type 0
+SwitchIsFrom ms s = IsFrom ms s.subject × IsFrom ms s.chosen × AllFrom ms s.rest.items
+
+abbrev pub OptionIsFrom : List Stamped → Option Stamped → Type 0
+OptionIsFrom ms None = ⊤
+OptionIsFrom ms (Some e) = IsFrom ms e
+
+abbrev pub LoopIsFrom : List Stamped → Loop → Type 0
+LoopIsFrom ms l = IsFrom ms l.condition × OptionIsFrom ms l.body × OptionIsFrom ms l.step
+
+abbrev pub RowIsFrom : List Stamped → Row → Type 0
+RowIsFrom ms row.Stays = ⊤
+RowIsFrom ms (row.Gives e) = IsFrom ms e
+RowIsFrom ms (row.Which es) = AllFrom ms es.items
+RowIsFrom ms (row.Switch e es) = IsFrom ms e × AllFrom ms es.items
+RowIsFrom ms (row.Junction j) = JunctionIsFrom ms j
+RowIsFrom ms (row.Compound e es) = IsFrom ms e × AllFrom ms es.items
+RowIsFrom ms (row.While l) = LoopIsFrom ms l
+RowIsFrom ms (row.For s l) = IsFrom ms s × LoopIsFrom ms l
+
+abbrev pub ValuedIsFrom : List Stamped → Valued → Type 0
+ValuedIsFrom ms (valued.Which v es) = IsFrom ms v × AllFrom ms es.items
+ValuedIsFrom ms (valued.Switch s) = SwitchIsFrom ms s
+ValuedIsFrom ms (valued.Junction j) = JunctionIsFrom ms j
+ValuedIsFrom ms (valued.Compound e es) = IsFrom ms e × AllFrom ms es.items
+ValuedIsFrom ms (valued.For l) = LoopIsFrom ms l
+
+abbrev pub EndedIsFrom : List Stamped → Ended → Type 0
+EndedIsFrom ms (end.Condition l) = LoopIsFrom ms l
+EndedIsFrom ms (end.Body l) = LoopIsFrom ms l
+EndedIsFrom ms (end.Step l) = LoopIsFrom ms l
+
+abbrev pub PlaceIsFrom : List Stamped → Place → Type 0
+PlaceIsFrom ms (place.Start r) = RowIsFrom ms r
+PlaceIsFrom ms (place.Value v) = ValuedIsFrom ms v
+PlaceIsFrom ms (place.End e) = EndedIsFrom ms e
+PlaceIsFrom ms (place.Match s) = SwitchIsFrom ms s
+PlaceIsFrom ms (place.Leave l) = LoopIsFrom ms l
+PlaceIsFrom ms place.Over = ⊤
+
+abbrev pub IsPassed : List Stamped → Result Step ExprFault → Type 0
+IsPassed ms r = IfOk r (λ s. AskIsFrom ms s.ask × PlaceIsFrom ms s.place)

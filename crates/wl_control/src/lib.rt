@@ -1,0 +1,14 @@
+//! Loops and branches, as questions that an evaluator answers.
+#![tactic(auto)]
+
+mod choices;
+mod cursor;
+mod junction;
+mod kind;
+mod loops;
+mod place;
+mod rows;
+mod step;
+
+pub use cursor::Cursor;
+pub use place::{Ask, Last};

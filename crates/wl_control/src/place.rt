@@ -1,0 +1,122 @@
+//! Where a row stands: what it holds between a question and its answer.
+use std::collections::VecDeque;
+use wl_expr::Expr;
+
+/// The answer to what was asked last, or the first call.
+#[derive(Clone, Copy)]
+pub enum Last<'a> {
+    Start,
+    Value(&'a Expr),
+    Matched(bool),
+    Went,
+    Broke,
+    Continued,
+}
+
+/// How an evaluation ended whose row catches Break and Continue.
+#[derive(Clone, Copy)]
+pub enum Caught<'a> {
+    Value(&'a Expr),
+    Broke,
+    Continued,
+}
+
+/// What a row asks next, or how it ends.
+#[derive(Drop)]
+pub enum Ask {
+    /// What is the value of this expression?
+    Eval(Expr),
+    /// Does the first expression match the second as a pattern?
+    Matches(Expr, Expr),
+    /// The iterator's name gets this value.
+    Let(Expr),
+    /// A pass begins.
+    Pass,
+    /// The result is `Overflow[]`, with its message.
+    Overflow,
+    /// The result.
+    Done(Expr),
+    /// The expression is left as it is.
+    Unchanged,
+}
+
+/// A question, and where the row stands behind it.
+#[derive(Drop)]
+pub struct Step {
+    pub ask: Ask,
+    pub place: Place,
+}
+
+/// What a row waits for, and what it does with it.
+#[derive(Drop)]
+pub enum Place {
+    Start(Row),
+    Value(Valued),
+    End(Ended),
+    Match(Switch),
+    Leave(Loop),
+    Over,
+}
+
+/// A row before its first question.
+#[derive(Drop)]
+pub enum Row {
+    Stays,
+    Gives(Expr),
+    Which(VecDeque<Expr>),
+    Switch(Expr, VecDeque<Expr>),
+    Junction(Junction),
+    Compound(Expr, VecDeque<Expr>),
+    While(Loop),
+    For(Expr, Loop),
+}
+
+/// What a value decides.
+#[derive(Drop)]
+pub enum Valued {
+    Which(Expr, VecDeque<Expr>),
+    Switch(Switch),
+    Junction(Junction),
+    Compound(Expr, VecDeque<Expr>),
+    For(Loop),
+}
+
+/// What the end of an evaluation decides, where Break and Continue are caught.
+#[derive(Drop)]
+pub enum Ended {
+    Condition(Loop),
+    Body(Loop),
+    Step(Loop),
+}
+
+/// The choice of `Switch` at one of its patterns: what it chooses there, and what it goes on with.
+#[derive(Drop)]
+pub struct Switch {
+    pub subject: Expr,
+    pub chosen: Expr,
+    pub rest: VecDeque<Expr>,
+}
+
+/// `And`, or `Or`.
+#[derive(Clone, Copy)]
+pub enum Connective {
+    And,
+    Or,
+}
+
+/// The values that are left so far, and the elements that aren't evaluated yet.
+#[derive(Drop)]
+pub struct Junction {
+    pub connective: Connective,
+    pub left: Vec<Expr>,
+    pub rest: VecDeque<Expr>,
+}
+
+/// A loop, and how many passes it may still begin: more than there are steps.
+#[derive(Drop)]
+pub struct Loop {
+    pub condition: Expr,
+    pub body: Option<Expr>,
+    pub step: Option<Expr>,
+    pub passes: u128,
+}
