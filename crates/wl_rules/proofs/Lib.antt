@@ -1,0 +1,7 @@
+pub mod Choices
+pub mod Keys
+pub mod RuleOrder
+pub mod Places
+pub mod Plain
+pub mod Rows
+pub mod Texts

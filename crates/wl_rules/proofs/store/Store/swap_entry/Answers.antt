@@ -1,0 +1,12 @@
+use Rattle.std.proofs.Common.{refl}
+use Rattle.wl_rules.specs.Entries.{with_rules, no_rules}
+use Rattle.wl_rules.specs.Stored.{Stored, entry_at}
+use Rattle.wl_rules.proofs.Rows.{defines}
+use Rattle.wl_rules.proofs.store.Store.swap_entry.Goals as goal
+
+pub returns-clause-defines : goal.returns-clause-defines
+returns-clause-defines c =
+    let within = rw (← c.self.view_is) at c.requires in
+    let s : Stored = record { rows = c.self.inside.table; drawn = c.self.inside.drawn } in
+    rw (c.swap_rules-rules.ensures.changed, c.empty.ensures, c.at_mut-entry.ensures.value, c.next_version-version.ensures, ← c.self.view_is)
+    (defines s c.args.index (with_rules no_rules (entry_at c.args.index s)) (with_rules no_rules) within c.at_mut-entry.ensures.distinct (refl))
