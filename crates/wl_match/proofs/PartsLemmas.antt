@@ -1,0 +1,168 @@
+-- The patterns of a list of parts, as parts are put behind it.
+use Rattle.std.proofs.Common.{◌≡◌, ℕ, zero, suc, ◌+◌, ◌-◌, ◌<◌, ◌≤◌, List, [], ◌∷◌, ◌++◌, length, get_or, take, refl, sym, ap, subst, ◌∙◌, false, add-one, append_assoc, length-append, arith}
+use Rattle.std.proofs.lemmas.List.{append-nil}
+use Rattle.std.proofs.Math.ListN.{get_or-append}
+use Rattle.std.proofs.Math.Seq.{get_or-append_seam}
+use Rattle.std.proofs.lemmas.List.Elements.{All-nil, All-cons, All-head, All-tail, All-append}
+use Rattle.std.specs.List.{All}
+use Rattle.wl_expr.specs.Passed.{IsFrom}
+use Rattle.wl_expr.specs.Stamped.{Stamped, plain, plains, from_list}
+use Rattle.wl_match.specs.declared.flags.Flags.{Flags}
+use Rattle.wl_match.specs.declared.part.Part.{Part}
+use Rattle.wl_match.specs.Heads.{head_symbol, heads, heads_in, heads_above}
+use Rattle.wl_expr.specs.Tree.{Tree, num, text, symbol, node}
+use Rattle.wl_expr.specs.Words.{is_node}
+use Rattle.wl_match.specs.declared.part.Part.TheVariants.{Exactly}
+use Rattle.wl_match.specs.Pattern.{Pat, Pats, exactly, end, also, read_node}
+use Rattle.wl_match.specs.Placed.{flags_at, placed, placed_in}
+use Rattle.wl_match.specs.Parts.{nothing, at, table, pat, pat_of, pats_of, kept, kept_by, Builds, BuildsAll, Puts}
+use Rattle.wl_match.proofs.HeadsLemmas.{count_more, length_heads}
+
+table_put : (ps : List Pat) (ss : List Part) (s : Part) → table ps (ss ++ s ∷ []) ≡ table ps ss ++ pat_of (at (table ps ss)) s ∷ []
+table_put ps [] s = refl
+table_put ps (r ∷ ss) s = table_put (ps ++ pat_of (at ps) r ∷ []) ss s
+
+length_table : (ps : List Pat) (ss : List Part) → length (table ps ss) ≡ length ps + length ss
+length_table ps [] = omega arith
+length_table ps (s ∷ ss) = omega (arith, length_table (ps ++ pat_of (at ps) s ∷ []) ss, length-append ps (pat_of (at ps) s ∷ []))
+
+-- the parts before keep their patterns
+pub pat_kept : (ss : List Part) (s : Part) (i : ℕ) → i < length ss → pat (ss ++ s ∷ []) i ≡ pat ss i
+unfolding pat
+pat_kept ss s i l =
+    ap (λ ps. get_or ps i nothing) (table_put [] ss s)
+    ∙ get_or-append (table [] ss) (pat_of (at (table [] ss)) s ∷ []) nothing i (omega (arith, length_table [] ss))
+
+-- the last part is read by the patterns before it
+pub pat_put : (ss : List Part) (s : Part) → pat (ss ++ s ∷ []) (length ss) ≡ pat_of (pat ss) s
+unfolding pat
+pat_put ss s =
+    ap (λ ps. get_or ps (length ss) nothing) (table_put [] ss s)
+    ∙ ap (λ n. get_or (table [] ss ++ pat_of (at (table [] ss)) s ∷ []) n nothing) (let e : length ss ≡ length (table [] ss) = omega (arith, length_table [] ss) in e)
+    ∙ get_or-append_seam (table [] ss) (pat_of (at (table [] ss)) s) [] nothing
+
+pub put_is : (ss : List Part) (s : Part) (i : ℕ) (new : List Part) → Puts s ss i new → pat new i ≡ pat_of (pat ss) s
+put_is ss s i new p = (λ n. pat (p.is n) (p.at_end n)) ∙ pat_put ss s
+
+pub put_length : (ss : List Part) (s : Part) (new : List Part) → new ≡ ss ++ s ∷ [] → length new ≡ length ss + 1
+put_length ss s new e = ap length e ∙ length-append ss (s ∷ [])
+
+pub kept_put : (ss : List Part) (s : Part) → kept (ss ++ s ∷ []) ≡ kept ss ++ kept_by s
+unfolding kept
+kept_put [] s = append-nil (kept_by s) ∙ refl
+kept_put (r ∷ ss) s = ap (λ xs. kept_by r ++ xs) (kept_put ss s) ∙ sym (append_assoc (kept_by r) (kept ss) (kept_by s))
+
+pub kept_nothing : (ms : List Stamped) → All (IsFrom ms) (kept [])
+unfolding kept
+kept_nothing ms = All-nil (IsFrom ms)
+
+put_last : Pats → Pat → Pats
+put_last end p = also p end
+put_last (also q qs) p = also q (put_last qs p)
+
+pats_put : (f : ℕ → Pat) (is : List ℕ) (i : ℕ) → pats_of f (is ++ i ∷ []) ≡ put_last (pats_of f is) (f i)
+unfolding put_last
+pats_put f [] i = refl
+pats_put f (j ∷ is) i = ap (λ ps. also (f j) ps) (pats_put f is i)
+
+placed_in_more : (fs : List Flags) (k : ℕ) (ts : List Stamped) (i : ℕ) (t : Stamped) → i < length ts → t ≡ get_or ts i t → placed_in fs k (plains (from_list (take (i + 1) ts))) ≡ put_last (placed_in fs k (plains (from_list (take i ts)))) (placed fs (k + length (heads_in (plains (from_list (take i ts))))) (plain t))
+unfolding put_last
+placed_in_more fs k [] i t l e = absurd (omega arith)
+placed_in_more fs k (x ∷ ts) zero t l e =
+    (λ n. also (placed fs (sym z n) (plain (sym e n))) end)
+  where
+    z : k + 0 ≡ k
+    z = omega arith
+placed_in_more fs k (x ∷ ts) (suc i) t l e =
+    rw add-one (ap (λ ps. also (placed fs k (plain x)) ps) (rw add-one at (placed_in_more fs (k + length (heads (plain x))) ts i t (omega arith) e)
+    ∙ ap (λ n. put_last (placed_in fs (k + length (heads (plain x))) (plains (from_list (take i ts)))) (placed fs n (plain t)))
+    (let n : k + length (heads (plain x)) + length (heads_in (plains (from_list (take i ts)))) ≡ k + length (heads (plain x) ++ heads_in (plains (from_list (take i ts)))) = omega (arith, length-append (heads (plain x)) (heads_in (plains (from_list (take i ts))))) in n)))
+
+pats_same : (f g : ℕ → Pat) (n : ℕ) (is : List ℕ) → All (λ i. i < n) is → ((j : ℕ) → j < n → f j ≡ g j) → pats_of f is ≡ pats_of g is
+pats_same f g n [] h e = refl
+pats_same f g n (i ∷ is) h e = λ m. also (e i (All-head (λ i. i < n) i is h) m) (pats_same f g n is (All-tail (λ i. i < n) i is h) e m)
+
+all_up : (n m : ℕ) (is : List ℕ) → n ≤ m → All (λ i. i < n) is → All (λ i. i < m) is
+all_up n m [] l h = All-nil (λ i. i < m)
+all_up n m (i ∷ is) l h = let a : i < n = All-head (λ i. i < n) i is h in All-cons (λ i. i < m) i is (omega arith) (all_up n m is l (All-tail (λ i. i < n) i is h))
+
+all_taken : (ms ts : List Stamped) (i : ℕ) (t : Stamped) → i < length ts → t ≡ get_or ts i t → All (IsFrom ms) (take (i + 1) ts) → All (IsFrom ms) (take i ts) × IsFrom ms t
+all_taken ms [] i t l e h = absurd (omega arith)
+all_taken ms (x ∷ ts) zero t l e h = (All-nil (IsFrom ms), subst (IsFrom ms) (sym e) (All-head (IsFrom ms) x [] h))
+all_taken ms (x ∷ ts) (suc i) t l e h =
+    let whole : All (IsFrom ms) (x ∷ take (suc i) ts) = rw add-one at h in
+    let r = all_taken ms ts i t (omega arith) e (rw add-one (All-tail (IsFrom ms) x (take (suc i) ts) whole)) in
+    (All-cons (IsFrom ms) x (take i ts) (All-head (IsFrom ms) x (take (suc i) ts) whole) r.0, r.1)
+
+with_more : (fs : List Flags) (k : ℕ) (ts : List Stamped) (i : ℕ) (t : Stamped) (old mid new : List Part) (is : List ℕ) (j n m : ℕ) → i < length ts → t ≡ get_or ts i t → BuildsAll fs k (take i ts) old is n mid → Builds fs n t mid j m new → BuildsAll fs k (take (i + 1) ts) old (is ++ j ∷ []) m new
+with_more fs k ts i t old mid new is j n m l e a b = record {
+  below = All-append (λ i. i < length new) is (j ∷ []) (all_up (length mid) (length new) is b.grows a.below) (All-cons (λ i. i < length new) j [] (let q = b.last in omega arith) (All-nil (λ i. i < length new)));
+  grows = let g = a.grows in let h = b.grows in omega arith;
+  keeps = λ v w. b.keeps v (let g = a.grows in omega arith) ∙ a.keeps v w;
+  are =
+      pats_put (pat new) is j
+      ∙ (λ v. put_last (pats_same (pat new) (pat mid) (length mid) is a.below b.keeps v) (b.is v))
+      ∙ (λ v. put_last (a.are v) (placed fs (a.next_is v) (plain t)))
+      ∙ sym (placed_in_more fs k ts i t l e);
+  next_is = let g = a.next_is in let h = b.next_is in omega (arith, count_more ts i t l e);
+  passed = λ ms o p. let q = all_taken ms ts i t l e p in b.passed ms (a.passed ms o q.0) q.1;
+}
+
+-- one tree more
+pub builds_more : (fs : List Flags) (k : ℕ) (ts : List Stamped) (i : ℕ) (t : Stamped) (old mid new : List Part) (is js : List ℕ) (j n m : ℕ) → i < length ts → t ≡ get_or ts i t → js ≡ is ++ j ∷ [] → BuildsAll fs k (take i ts) old is n mid → Builds fs n t mid j m new → BuildsAll fs k (take (i + 1) ts) old js m new
+builds_more fs k ts i t old mid new is js j n m l e q a b = subst (λ ks. BuildsAll fs k (take (i + 1) ts) old ks m new) (sym q) (with_more fs k ts i t old mid new is j n m l e a b)
+
+-- a part on its own
+pub builds_leaf : (fs : List Flags) (k : ℕ) (t u : Stamped) (old new : List Part) (i : ℕ) → is_node (plain t) ≡ false → u ≡ t → Puts (Exactly u) old i new → Builds fs k t old i k new
+builds_leaf fs k t u old new i n e p = record {
+  last = let a = p.at_end in omega (arith, put_length old (Exactly u) new p.is);
+  grows = omega (arith, put_length old (Exactly u) new p.is);
+  keeps = λ j l. ap (λ ss. pat ss j) p.is ∙ pat_kept old (Exactly u) j l;
+  is = put_is old (Exactly u) i new p ∙ ap (λ z. exactly (plain z)) e ∙ leaf_placed (plain t) n;
+  next_is = let a = ap length (leaf_heads (plain t) n) in omega arith;
+  passed = λ ms o f. subst (All (IsFrom ms)) (sym (ap kept p.is ∙ kept_put old (Exactly u))) (All-append (IsFrom ms) (kept old) (u ∷ []) o (All-cons (IsFrom ms) u [] (subst (IsFrom ms) (sym e) f) (All-nil (IsFrom ms))));
+}
+  where
+    leaf_placed : (t : Tree) → is_node t ≡ false → exactly t ≡ placed fs k t
+    leaf_placed (num v) h = refl
+    leaf_placed (text v) h = refl
+    leaf_placed (symbol v) h = refl
+    leaf_placed (node g us) h = cc
+
+    leaf_heads : (t : Tree) → is_node t ≡ false → heads t ≡ []
+    leaf_heads (num v) h = refl
+    leaf_heads (text v) h = refl
+    leaf_heads (symbol v) h = refl
+    leaf_heads (node g us) h = cc
+
+-- a node behind the parts of its head and its elements
+pub builds_node : (fs : List Flags) (k : ℕ) (t h : Stamped) (ts : List Stamped) (own : Flags) (s : Part) (old mid next new : List Part) (is : List ℕ) (i j a n m : ℕ)
+    → node (plain h) (plains (from_list ts)) ≡ plain t → ((ms : List Stamped) → IsFrom ms t → IsFrom ms h × All (IsFrom ms) ts)
+    → own ≡ flags_at fs k → a ≡ k + length (head_symbol (plain h)) → Builds fs a h old i n mid → BuildsAll fs n ts mid is m next
+    → ((f : ℕ → Pat) → pat_of f s ≡ read_node (λ _. own) (plain h) (plains (from_list ts)) (f i) (pats_of f is))
+    → ((ms : List Stamped) → IsFrom ms h → All (IsFrom ms) ts → All (IsFrom ms) (kept_by s))
+    → Puts s next j new → Builds fs k t old j m new
+builds_node fs k t h ts own s old mid next new is i j a n m e from o w b c q r p = record {
+  last = let v = p.at_end in omega (arith, put_length next s new p.is);
+  grows = let v = b.grows in let u = c.grows in omega (arith, put_length next s new p.is);
+  keeps = λ v l. ap (λ ss. pat ss v) p.is ∙ pat_kept next s v (let x = b.grows in let y = c.grows in omega arith) ∙ c.keeps v (let x = b.grows in omega arith) ∙ b.keeps v l;
+  is =
+      put_is next s j new p ∙ q (pat next)
+      ∙ (λ v. read_node (λ _. o v) (plain h) (plains (from_list ts)) ((c.keeps i (let x = b.last in omega arith) ∙ b.is) v) (c.are v))
+      ∙ (λ v. read_node (λ _. flags_at fs k) (plain h) (plains (from_list ts)) (placed fs (w v) (plain h)) (placed_in fs (n_is v) (plains (from_list ts))))
+      ∙ ap (placed fs k) e;
+  next_is = let x = c.next_is in omega (arith, n_is, length_heads (plain h) (plains (from_list ts)), ap (λ z. length (heads z)) e);
+  passed = λ ms x f.
+      let g = from ms f in
+      subst (All (IsFrom ms)) (sym (ap kept p.is ∙ kept_put next s)) (All-append (IsFrom ms) (kept next) (kept_by s) (c.passed ms (b.passed ms x g.0) g.1) (r ms g.0 g.1));
+}
+  where
+    n_is : n ≡ k + length (heads_above (plain h))
+    n_is = let x = b.next_is in omega (arith, length-append (head_symbol (plain h)) (heads (plain h)))
+
+-- the last part is the pattern
+pub root_is : (fs : List Flags) (k : ℕ) (t : Stamped) (old : List Part) (i n : ℕ) (new : List Part) → Builds fs k t old i n new → pat new (length new - 1) ≡ placed fs k (plain t)
+root_is fs k t old i n new b = ap (pat new) (let q = b.last in let e : length new - 1 ≡ i = omega arith in e) ∙ b.is
+
+pub kept_from_none : (ms : List Stamped) (ss : List Part) → ss ≡ [] → All (IsFrom ms) (kept ss)
+kept_from_none ms ss e = subst (λ z. All (IsFrom ms) (kept z)) (sym e) (kept_nothing ms)

@@ -1,0 +1,11 @@
+-- The definitions: patterns, the leaves of a search, the heads that a match reads, and the law of the leaves.
+pub mod Pattern
+pub mod Search
+pub mod Trials
+pub mod Heads
+pub mod Followed
+pub mod Placed
+pub mod Prepared
+-- What serves the proofs.
+pub mod Sought
+pub mod Parts

@@ -1,0 +1,159 @@
+//! A pattern that is ready to be matched.
+ghost use Rattle.std.specs.Prelude.{◌≡◌, ◌+◌, ◌≤◌, false, List, length, map, IfOk, IfSome, MatchOption};
+ghost use Rattle.std.specs.List.{All};
+ghost use Rattle.wl_expr.specs.Passed.{IsFrom};
+ghost use Rattle.wl_expr.specs.Stamped.{Stamped, plain, plains, from_list};
+ghost use Rattle.wl_expr.specs.Tree.{node};
+ghost use Rattle.wl_expr.specs.Words.{Name, is_node};
+ghost use Rattle.wl_match.specs.Heads.{head_symbol, heads, heads_above, heads_in};
+ghost use Rattle.wl_match.specs.Parts.{Builds, BuildsAll, Puts};
+ghost use Rattle.wl_match.specs.Pattern.{pattern};
+ghost use Rattle.wl_match.specs.Placed.{flags_at, placed};
+ghost use Rattle.wl_match.specs.declared.flags.Flags.{Flags};
+
+use crate::flags::Flags;
+use crate::forms::part_of;
+use crate::part::Part;
+use std::alloc::Global;
+use std::marker::Model;
+use wl_expr::{Expr, Look};
+use wl_ports::Memory;
+
+/// A pattern that is ready to be matched. It keeps the expressions that its parts name: texts, literals, heads, tests and
+/// defaults, each shared with the expression that it was prepared from.
+#[derive(Drop)]
+pub struct Pattern {
+    parts: Vec<Part>,
+}
+
+impl Model for Pattern {
+    ghost use Rattle.std.specs.Prelude.{◌-◌, length};
+    ghost use Rattle.wl_match.specs.Prepared.{Prepared, prepared_code};
+    ghost use Rattle.wl_match.specs.Parts.{kept, pat};
+
+    ghost Value = { Prepared };
+
+    ghost coded = { prepared_code };
+
+    ghost view = { λ q. record { pattern = pat q.parts.items (length q.parts.items - 1); kept = kept q.parts.items } };
+}
+
+impl Pattern {
+    /// The pattern that the expression is, with the flags of the symbols that are heads of its nodes, in their order.
+    pub fn prepare(alloc: Global, p: &Expr, flags: &[Flags]) -> Result<Pattern, Memory>
+        requires { length flags.now ≡ length (heads (plain p.now)) }
+        ensures placed { IfOk result (λ q. q.pattern ≡ placed flags.now 0 (plain p.now)) }
+        ensures named { (f : Name → Flags) → flags.now ≡ map f (heads (plain p.now))
+            → IfOk result (λ q. q.pattern ≡ pattern f (plain p.now)) }
+        ensures passed { IfOk result (λ q. (ms : List Stamped) → IsFrom ms p.now → All (IsFrom ms) q.kept) }
+    {
+        let mut parts = Vec::new(alloc);
+        build(alloc, p, flags, 0, &mut parts)?;
+        Ok(Pattern { parts })
+    }
+}
+
+/// The place of a part that was built, and how many heads stand before and in what it was built from.
+#[derive(Clone, Copy)]
+struct Built {
+    part: usize,
+    next: usize,
+}
+
+/// The same of a list of parts.
+#[derive(Drop)]
+struct BuiltAll {
+    parts: Vec<usize>,
+    next: usize,
+}
+
+fn put(parts: &mut Vec<Part>, part: Part) -> Result<usize, Memory>
+    ensures { IfOk result (λ i. Puts part parts.old.items i parts.new.items) }
+{
+    let at = parts.len();
+    parts.push(part)?;
+    Ok(at)
+}
+
+/// The flags of the next head, and how many heads stand up to it where the head is a symbol.
+fn own_flags(head: &Expr, flags: &[Flags], at: usize) -> (Flags, usize)
+    requires { at + length (head_symbol (plain head.now)) ≤ length flags.now }
+    ensures flags { result.0 ≡ flags_at flags.now at }
+    ensures next { result.1 ≡ at + length (head_symbol (plain head.now)) }
+{
+    let own = if at < flags.len() {
+        flags[at]
+    } else {
+        Flags::NONE
+    };
+    match head.view() {
+        Look::Symbol(_) => (own, at + 1),
+        _ => (own, at),
+    }
+}
+
+/// The head and the elements of a node.
+#[tactic(auto, using(wl_expr::proofs::Passing::head_from, wl_expr::proofs::Passing::args_from))]
+fn node_of(p: &Expr) -> Option<(&Expr, &[Expr])>
+    ensures is { MatchOption result (is_node (plain p.now) ≡ false)
+        (λ n. node (plain n.0.now) (plains (from_list n.1.now)) ≡ plain p.now) }
+    ensures passed { IfSome result (λ n. (ms : List Stamped)
+        → IsFrom ms p.now → IsFrom ms n.0.now × All (IsFrom ms) n.1.now) }
+{
+    match p.view() {
+        Look::Node(head, args) => Some((head, args)),
+        _ => None,
+    }
+}
+
+/// Adds the parts of the expression, before which `at` heads stand.
+#[cycle(build)]
+fn build(
+    alloc: Global,
+    p: &Expr,
+    flags: &[Flags],
+    at: usize,
+    parts: &mut Vec<Part>,
+) -> Result<Built, Memory>
+    requires { at + length (heads (plain p.now)) ≤ length flags.now }
+    ensures { IfOk result (λ b. Builds flags.now at p.now parts.old.items b.part b.next parts.new.items) }
+{
+    match node_of(p) {
+        Some((head, args)) => {
+            let (own, next) = own_flags(head, flags, at);
+            let top = build(alloc, head, flags, next, parts)?;
+            let below = build_all(alloc, args, flags, top.next, parts)?;
+            let part = part_of(alloc, own, head, args, top.part, below.parts)?;
+            Ok(Built {
+                part: put(parts, part)?,
+                next: below.next,
+            })
+        }
+        None => Ok(Built {
+            part: put(parts, Part::Exactly(p.copy()?))?,
+            next: at,
+        }),
+    }
+}
+
+/// Adds the parts of each of the expressions, before which `at` heads stand.
+#[cycle(build)]
+fn build_all(
+    alloc: Global,
+    args: &[Expr],
+    flags: &[Flags],
+    at: usize,
+    parts: &mut Vec<Part>,
+) -> Result<BuiltAll, Memory>
+    requires { at + length (heads_in (plains (from_list args.now))) ≤ length flags.now }
+    ensures { IfOk result (λ b. BuildsAll flags.now at args.now parts.old.items b.parts.items b.next parts.new.items) }
+{
+    let mut all = Vec::new(alloc);
+    let mut next = at;
+    for arg in args {
+        let built = build(alloc, arg, flags, next, parts)?;
+        all.push(built.part)?;
+        next = built.next;
+    }
+    Ok(BuiltAll { parts: all, next })
+}
