@@ -111,7 +111,7 @@ def input_of_tree(cell):
     if cell == TOO_LONG:
         raise Refused(refusal_line("TooLong"))
     try:
-        tree = parse(cell, bases=False)
+        tree = parse(cell)
     except SyntaxFault as f:
         raise Refused(refusal_line(f.kind, f.at)) from None
 

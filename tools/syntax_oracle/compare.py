@@ -63,7 +63,7 @@ def cells(names, count, seed):
             size = r.choice([1, 2, 3, 4, 5, 6, 7, 8, 9, 12])
             tokens = names["random_list"](r, r.choice(names["POOLS"]), size)
         texts = [t.text for t in tokens]
-        if r.random() < 0.3:
+        if texts and r.random() < 0.3:
             texts[r.randrange(len(texts))] = literal(r)
         text = (" " if r.random() < 0.8 else "").join(texts)
         if "\n" not in text:

@@ -13,7 +13,7 @@ use Rattle.wl_syntax.specs.Lower.{lower}
 use Rattle.wl_syntax.specs.Reads.{HasTree, IsReadAs}
 use Rattle.wl_syntax.specs.Tree.{Tree, Right, reads}
 use Rattle.wl_syntax.proofs.Unique.{one_answer}
-use Rattle.wl_reading_back.specs.Law.{HasTextNames, HaveTextNames, IsPrintable, PrintedIsRight, HasOneTree, ReadsAgain, ParsesBack}
+use Rattle.wl_reading_back.specs.Law.{IsPrintable, PrintedIsRight, HasOneTree, ReadsAgain, ParsesBack}
 use Rattle.wl_reading_back.specs.Written.{written}
 use Rattle.wl_reading_back.proofs.Back.{string_back}
 use Rattle.wl_reading_back.proofs.Cut.{Scans, scans_nothing}
@@ -22,9 +22,9 @@ use Rattle.wl_reading_back.proofs.Rowed.{headed}
 use Rattle.wl_reading_back.proofs.Table.{Good, AllGood, Deep, AllDeep, number_good, added_good, call_good, row_good}
 use Rattle.wl_reading_back.proofs.Well.{Well, right_tree}
 
-symbol_good : (s : List ℕ) → IsProper (full.symbol s) → HasTextNames (full.symbol s) → Good (full.symbol s) (showing (full.symbol s))
+symbol_good : (s : List ℕ) → IsProper (full.symbol s) → Good (full.symbol s) (showing (full.symbol s))
 unfolding Well
-symbol_good s i x = added_good (full.symbol s) (name s) (record { utf8 = x; name = i }) refl (λ e. absurd (cc)) (λ _ _. refl)
+symbol_good s i = added_good (full.symbol s) (name s) (record { utf8 = i.0; name = i.1 }) refl (λ e. absurd (cc)) (λ _ _. refl)
 
 text_good : (s : List ℕ) → IsProper (full.text s) → Good (full.text s) (showing (full.text s))
 unfolding Well
@@ -33,35 +33,35 @@ text_good s i = added_good (full.text s) (string s) i (ap (λ x. full.text x) (s
 mutual
   unfolding AllGood Deep AllDeep
 
-  pub good : (t : full.Tree) → IsProper t → HasTextNames t → is_clean t ≡ true → Good t (showing t)
-  good (full.num f) i x c = number_good f i
-  good (full.text s) i x c = text_good s i
-  good (full.symbol s) i x c = symbol_good s i x
-  good (full.node h ts) i x c =
+  pub good : (t : full.Tree) → IsProper t → is_clean t ≡ true → Good t (showing t)
+  good (full.num f) i c = number_good f i
+  good (full.text s) i c = text_good s i
+  good (full.symbol s) i c = symbol_good s i
+  good (full.node h ts) i c =
       let p = and_parts (not (stops (row_of h) ts)) (is_clean h && are_clean ts) c in
       let q = and_parts (is_clean h) (are_clean ts) p.1 in
-      row_good (row_of h) h ts (call (operand_or_equal 3 (showing h).whole) (elems (showings ts))) (headed h) (not-true (stops (row_of h) ts) p.0) i.1 (all_good ts i.1 x.1 q.1) (all_deep ts i.1 x.1 q.1)
-      (call_good h ts (good h i.0 x.0 q.0) (all_good ts i.1 x.1 q.1))
+      row_good (row_of h) h ts (call (operand_or_equal 3 (showing h).whole) (elems (showings ts))) (headed h) (not-true (stops (row_of h) ts) p.0) i.1 (all_good ts i.1 q.1) (all_deep ts i.1 q.1)
+      (call_good h ts (good h i.0 q.0) (all_good ts i.1 q.1))
 
-  all_good : (ts : full.Trees) → AreProper ts → HaveTextNames ts → are_clean ts ≡ true → AllGood ts
-  all_good full.none i x c = tt
-  all_good (full.more t ts) i x c = let p = and_parts (is_clean t) (are_clean ts) c in (good t i.0 x.0 p.0, all_good ts i.1 x.1 p.1)
+  all_good : (ts : full.Trees) → AreProper ts → are_clean ts ≡ true → AllGood ts
+  all_good full.none i c = tt
+  all_good (full.more t ts) i c = let p = and_parts (is_clean t) (are_clean ts) c in (good t i.0 p.0, all_good ts i.1 p.1)
 
-  deep : (t : full.Tree) → IsProper t → HasTextNames t → is_clean t ≡ true → Deep t
-  deep (full.num f) i x c = tt
-  deep (full.text s) i x c = tt
-  deep (full.symbol s) i x c = tt
-  deep (full.node h ts) i x c =
+  deep : (t : full.Tree) → IsProper t → is_clean t ≡ true → Deep t
+  deep (full.num f) i c = tt
+  deep (full.text s) i c = tt
+  deep (full.symbol s) i c = tt
+  deep (full.node h ts) i c =
       let p = and_parts (not (stops (row_of h) ts)) (is_clean h && are_clean ts) c in
       let q = and_parts (is_clean h) (are_clean ts) p.1 in
-      (good h i.0 x.0 q.0, all_good ts i.1 x.1 q.1)
+      (good h i.0 q.0, all_good ts i.1 q.1)
 
-  all_deep : (ts : full.Trees) → AreProper ts → HaveTextNames ts → are_clean ts ≡ true → AllDeep ts
-  all_deep full.none i x c = tt
-  all_deep (full.more t ts) i x c = let p = and_parts (is_clean t) (are_clean ts) c in (deep t i.0 x.0 p.0, all_deep ts i.1 x.1 p.1)
+  all_deep : (ts : full.Trees) → AreProper ts → are_clean ts ≡ true → AllDeep ts
+  all_deep full.none i c = tt
+  all_deep (full.more t ts) i c = let p = and_parts (is_clean t) (are_clean ts) c in (deep t i.0 p.0, all_deep ts i.1 p.1)
 
 pub good_of : (t : full.Tree) → IsPrintable t → Good t (showing t)
-good_of t h = good t h.proper h.names h.clean
+good_of t h = good t h.proper h.clean
 
 pub printed_is_right : PrintedIsRight
 printed_is_right t h = right_tree (shown t) (good_of t h).well

@@ -1,6 +1,5 @@
 -- What is printed is read again.
 use Rattle.std.specs.Prelude.{true, ◌≡◌, ◌≤◌}
-use Rattle.std.specs.Str.{IsUtf8}
 use Rattle.wl_expr.specs.Tree as full
 use Rattle.wl_expr.specs.Proper.{IsProper}
 use Rattle.wl_form.specs.Table.{shown}
@@ -12,22 +11,9 @@ use Rattle.wl_syntax.specs.Reads.{HasTree, IsReadAs, Refused}
 use Rattle.wl_syntax.specs.Tree.{Tree, Right}
 use Rattle.wl_reading_back.specs.Written.{written}
 
--- the names of all symbols are texts
-abbrev mutual
-  pub HasTextNames : full.Tree → Type 0
-  HasTextNames (full.num n) = Unit {0}
-  HasTextNames (full.text s) = Unit {0}
-  HasTextNames (full.symbol s) = IsUtf8 s
-  HasTextNames (full.node h ts) = HasTextNames h × HaveTextNames ts
-
-  pub HaveTextNames : full.Trees → Type 0
-  HaveTextNames full.none = Unit {0}
-  HaveTextNames (full.more t ts) = HasTextNames t × HaveTextNames ts
-
 -- an expression that is printed so that it can be read again
 pub record IsPrintable (t : full.Tree) : Type 0 where
   pub proper : IsProper t
-  pub names : HasTextNames t
   pub clean : is_clean t ≡ true
 
 -- what is printed of an expression is a right tree
