@@ -1,17 +1,15 @@
 -- What is printed is read again.
-use Rattle.std.proofs.Common.{ℕ, ◌≡◌, ◌≤◌, Bool, true, false, not, ◌&&◌, List, [], ◌∷◌, ◌++◌, refl, sym, ap, ◌∙◌, subst, append-nil, cond}
-use Rattle.std.specs.Prelude.{Some, None}
+use Rattle.std.proofs.Common.{ℕ, ◌≡◌, true, not, ◌&&◌, List, [], ◌++◌, refl, sym, ap, ◌∙◌, subst, append-nil}
 use Rattle.std.proofs.lemmas.Bool.{and_parts, not-true}
 use Rattle.wl_expr.specs.Tree as full
 use Rattle.wl_expr.specs.Proper.{IsProper, AreProper}
 use Rattle.wl_form.specs.Heads.{row_of}
 use Rattle.wl_form.specs.Shown.{Shown, name, string, call, operand_or_equal, text_of}
-use Rattle.wl_form.specs.Table.{Showing, showing, showings, shown, elems, added}
+use Rattle.wl_form.specs.Table.{showing, showings, shown, elems}
 use Rattle.wl_form.specs.Texts.{input_text, spelled, is_clean, are_clean, stops}
-use Rattle.wl_syntax.specs.Depth.{depth, max_depth}
 use Rattle.wl_syntax.specs.Lower.{lower}
-use Rattle.wl_syntax.specs.Reads.{HasTree, IsReadAs}
-use Rattle.wl_syntax.specs.Tree.{Tree, Right, reads}
+use Rattle.wl_syntax.specs.Reads.{HasTree}
+use Rattle.wl_syntax.specs.Tree.{Tree, reads}
 use Rattle.wl_syntax.proofs.Unique.{one_answer}
 use Rattle.wl_reading_back.specs.Law.{IsPrintable, PrintedIsRight, HasOneTree, ReadsAgain, ParsesBack}
 use Rattle.wl_reading_back.specs.Written.{written}

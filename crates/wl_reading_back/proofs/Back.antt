@@ -1,14 +1,13 @@
 -- What the words of a printed text stand for.
-use Rattle.std.proofs.Common.{inl, inr, ◌⊎◌, ℕ, ℤ, zero, suc, ◌+◌, ◌-◌, ◌*◌, ◌^◌, ◌/◌, ◌%◌, ◌<◌, ◌≤◌, ◌≡◌, ◌≢◌, Bool, true, false, not, ◌&&◌, ◌||◌, ◌==◌, cond, List, [], ◌∷◌, ◌++◌, length, take, drop, refl, sym, ap, ◌∙◌, arith, codes, subst, append_assoc, append-nil, ltb}
-use Rattle.std.specs.Prelude.{nat_lt, pos, negsuc, neg_ℤ, decimal, unsigned_abs, encode_utf8_all}
-use Rattle.std.specs.List.{list_any, list_all, prefix_len, before_first, after_first, position_or_len}
-use Rattle.std.specs.Str.{IsUtf8, bytes_eq, chars, all_scalars}
+use Rattle.std.proofs.Common.{ℕ, ℤ, suc, ◌+◌, ◌^◌, ◌/◌, ◌%◌, ◌<◌, ◌≤◌, ◌≡◌, Bool, true, false, not, ◌&&◌, ◌==◌, cond, List, [], ◌∷◌, ◌++◌, length, take, drop, refl, sym, ap, ◌∙◌, arith, codes, subst, append_assoc, ltb}
+use Rattle.std.specs.Prelude.{pos, negsuc, neg_ℤ, decimal, unsigned_abs, encode_utf8_all}
+use Rattle.std.specs.List.{prefix_len, before_first, after_first, position_or_len}
+use Rattle.std.specs.Str.{IsUtf8, bytes_eq, chars}
 use Rattle.std.specs.Char.{encode_utf8}
 use Rattle.std.proofs.lemmas.List.{length-append}
-use Rattle.std.proofs.lemmas.Bool.{cases_Bool, cond_both, cond-true, cond-false, and_parts, or_parts, eqb-true, ne_eqb, true≢false, ltb-true, not-true}
-use Rattle.std.proofs.lemmas.Slice.Eq.{bytes_eq-Decides}
+use Rattle.std.proofs.lemmas.Bool.{cond_both, cond-true, cond-false, and_parts, eqb-true, ne_eqb, true≢false, ltb-true}
 use Rattle.std.proofs.lemmas.Str.{chars-encodes, encodes-chars}
-use Rattle.wl_exact.specs.Fraction.{Fraction, IsNumber, of_int}
+use Rattle.wl_exact.specs.Fraction.{Fraction, IsNumber}
 use Rattle.wl_ports.specs.Name.{begins_name, continues_name, all_continue_name, spells_name}
 use Rattle.wl_expr.specs.Tree as full
 use Rattle.wl_form.specs.declared.operator.Marks.{Marks}
@@ -16,18 +15,18 @@ use Rattle.wl_form.specs.declared.operator.Marks.TheVariants.{One, Two, Three}
 use Rattle.wl_form.specs.Operators.{marks_text}
 use Rattle.wl_form.specs.Shown.{escaped, all_escaped, quoted, slot_marks}
 use Rattle.wl_form.specs.Texts.{spelled_number}
-use Rattle.wl_scan.specs.Tokens.{decimal_value_after, decimal_value}
-use Rattle.wl_syntax.specs.Atoms.{named, whole_number, value_after, value_of, index, slot_tree, is_mark, blank, blanks, bound, defaulted, pattern_tree, unquoted, string_of}
+use Rattle.wl_scan.specs.Forms.{is_mark}
+use Rattle.wl_scan.specs.Literals.{literal_value}
+use Rattle.wl_syntax.specs.Atoms.{named, whole_number, index, slot_tree, blank, blanks, bound, defaulted, pattern_tree, unquoted, string_of}
 use Rattle.wl_syntax.specs.Lower.{lower}
 use Rattle.wl_syntax.specs.Tree as tree
 use Rattle.wl_syntax.specs.Table as table
 use Rattle.wl_syntax.specs.declared.operator.Infix.TheVariants as read_infix
 use Rattle.wl_syntax.proofs.Marks.{Lacks, blanks_none, blanks_one, blanks_two, slot_one, slot_two}
 use Rattle.wl_reading_back.specs.Written.{signed, number_tree, digits_of}
-use Rattle.wl_reading_back.proofs.Signs.{avoids}
 use Rattle.wl_reading_back.proofs.Cut.{drop_front, take_front}
 use Rattle.wl_reading_back.proofs.Classes.{avoids_less, odd, IsWord, word_some, word_avoids, first_is_not, name_not_odd, continues_not_mark, digit_avoids}
-use Rattle.wl_reading_back.proofs.Words.{MaybeWord, Writes, writes_number, AllDigit, quoted_scalars}
+use Rattle.wl_reading_back.proofs.Words.{MaybeWord, writes_number, literal_is, AllDigit, quoted_scalars}
 
 -- strings
 
@@ -54,12 +53,8 @@ string_back s u =
 
 -- numbers
 
-same_value : (n : ℕ) (ds : List ℕ) → value_after n ds ≡ decimal_value_after n ds
-same_value n [] = refl
-same_value n (b ∷ bs) = same_value (n * 10 + (b - 48)) bs
-
-pub value_back : (n : ℕ) → n < 2 ^ 127 → value_of (decimal n) ≡ n
-value_back n l = same_value 0 (decimal n) ∙ (writes_number n l).value
+pub value_back : (n : ℕ) → n < 2 ^ 127 → literal_value (decimal n) ≡ n
+value_back n l = literal_is n (decimal n) (writes_number n l)
 
 pub digits_back : (n : ℕ) → n < 2 ^ 127 → lower (digits_of n) ≡ whole_number (pos n)
 digits_back n l = ap (λ (v : ℕ). whole_number (pos v)) (value_back n l)

@@ -1,10 +1,10 @@
 -- Which bytes may begin and follow the parts of a printed text.
-use Rattle.std.proofs.Common.{inl, inr, ◌⊎◌, ℕ, zero, suc, ◌+◌, ◌-◌, ◌<◌, ◌≤◌, ◌≡◌, ◌≢◌, Bool, true, false, not, ◌&&◌, ◌||◌, ◌==◌, cond, List, [], ◌∷◌, ◌++◌, length, refl, sym, ap, ◌∙◌, arith, codes, subst, append_assoc, ltb, leb}
+use Rattle.std.proofs.Common.{inl, inr, ℕ, ◌+◌, ◌<◌, ◌≤◌, ◌≡◌, Bool, true, false, not, ◌&&◌, ◌||◌, ◌==◌, List, [], ◌∷◌, ◌++◌, length, refl, sym, ap, ◌∙◌, arith, codes, subst, append_assoc, ltb, leb}
 use Rattle.std.specs.Prelude.{nat_lt}
-use Rattle.std.specs.List.{list_any, list_all, prefix_len}
+use Rattle.std.specs.List.{list_any, list_all}
 use Rattle.std.specs.Str.{IsUtf8, chars}
 use Rattle.std.specs.Char.{is_ascii_alphabetic, is_ascii_alphanumeric}
-use Rattle.std.proofs.lemmas.Bool.{cases_Bool, cond_both, cond-true, cond-false, and_parts, or_parts, or_cases, or_left, or_right, or_from, eqb-true, ne_eqb, true≢false, agree_below_at, agree_below, not-true, not_from_false, ltb-true, leb-true, false_from_ne_true}
+use Rattle.std.proofs.lemmas.Bool.{cases_Bool, cond_both, cond-true, cond-false, and_parts, or_parts, or_cases, or_left, or_right, eqb-true, true≢false, agree_below_at, agree_below, not-true, not_from_false, ltb-true, leb-true, false_from_ne_true}
 use Rattle.std.proofs.lemmas.Bool.Decides.{nat_tests}
 use Rattle.std.specs.Char.{encode_utf8, len_utf8}
 use Rattle.std.specs.Prelude.{encode_utf8_all}
@@ -13,9 +13,9 @@ use Rattle.std.proofs.lemmas.Str.{chars_past_char, encode_ascii, encodes-chars, 
 use Rattle.unicode_ident.proofs.IdentLemmas.{is_xid_start-ascii, is_xid_continue-ascii}
 use Rattle.wl_ports.specs.Name.{begins_name, continues_name, all_continue_name, spells_name, is_name, IsName}
 use Rattle.wl_scan.specs.Characters.{is_blank, is_digit}
-use Rattle.wl_scan.specs.Lengths.{blank_length, digits_length, name_length, spelled_length, blanks_length, underscores_length, is_lone_dot, signs, begins_with}
+use Rattle.wl_scan.specs.Lengths.{blank_length, digits_length, name_length, spelled_length, marks_length, is_lone_dot, begins_with}
 use Rattle.wl_scan.specs.Tokens.{is_comment, is_fraction}
-use Rattle.wl_reading_back.proofs.Signs.{avoids, further}
+use Rattle.wl_reading_back.proofs.Signs.{avoids}
 
 -- a byte of a list
 
@@ -28,7 +28,7 @@ in_list b (k ∷ L) P all h =
       | inr m ↦ in_list b L P parts.1 m
     ]
 
-equal_self : (b k : ℕ) → b ≡ k → (b == k) ≡ true
+pub equal_self : (b k : ℕ) → b ≡ k → (b == k) ≡ true
 equal_self b k e = grind (arith, nat_tests)
 
 -- bytes of X are bytes of L
@@ -139,16 +139,19 @@ abbrev pub begins_stop : List ℕ → Bool
 begins_stop [] = false
 begins_stop (b ∷ bs) = b == 46
 
--- nothing, one of these bytes, or two full stops
+-- nothing, one of these bytes, or two full stops; behind a `^` no other follows, which would make digits before it a base
 abbrev pub closes : List ℕ → Bool
 closes [] = true
-closes (b ∷ bs) = list_any (λ k. b == k) closers || ((b == 46) && begins_stop bs)
+closes (b ∷ bs) = (list_any (λ k. b == k) closers || ((b == 46) && begins_stop bs)) && not (begins_with (b ∷ bs) (codes "^^"))
 
 abbrev pub closer : ℕ → Bool
 closer b = list_any (λ k. b == k) (46 ∷ closers)
 
+closes_parts : (b : ℕ) (bs : List ℕ) → closes (b ∷ bs) ≡ true → ((list_any (λ k. b == k) closers || ((b == 46) && begins_stop bs)) ≡ true) × (not (begins_with (b ∷ bs) (codes "^^")) ≡ true)
+closes_parts b bs h = and_parts (list_any (λ k. b == k) closers || ((b == 46) && begins_stop bs)) (not (begins_with (b ∷ bs) (codes "^^"))) h
+
 closes_byte : (b : ℕ) (bs : List ℕ) → closes (b ∷ bs) ≡ true → closer b ≡ true
-closes_byte b bs h = elim (or_cases (list_any (λ k. b == k) closers) ((b == 46) && begins_stop bs) h) [
+closes_byte b bs h = elim (or_cases (list_any (λ k. b == k) closers) ((b == 46) && begins_stop bs) (closes_parts b bs h).0) [
   | inl m ↦ or_right (b == 46) _ m
   | inr m ↦ or_left (b == 46) _ (and_parts (b == 46) (begins_stop bs) m).0
 ]
@@ -168,9 +171,14 @@ pub closes_digits : (rest : List ℕ) → closes rest ≡ true → digits_length
 closes_digits [] h = refl
 closes_digits (b ∷ bs) h = cond-false (is_digit b) _ _ (closer_fails is_digit b refl (closes_byte b bs h))
 
-pub closes_marks : (rest : List ℕ) → closes rest ≡ true → underscores_length rest ≡ 0
+pub closes_marks : (rest : List ℕ) → closes rest ≡ true → marks_length rest ≡ 0
 closes_marks [] h = refl
 closes_marks (b ∷ bs) h = cond-false (b == 95) _ _ (closer_fails (λ c. c == 95) b refl (closes_byte b bs h))
+
+-- digits before it are no base
+pub closes_base : (rest : List ℕ) → closes rest ≡ true → begins_with rest (codes "^^") ≡ false
+closes_base [] h = refl
+closes_base (b ∷ bs) h = not-true (begins_with (b ∷ bs) (codes "^^")) (closes_parts b bs h).1
 
 and_off : (x : Bool) → (x && false) ≡ false
 and_off true = refl
@@ -178,7 +186,7 @@ and_off false = refl
 
 pub closes_dot : (rest : List ℕ) → closes rest ≡ true → is_lone_dot rest ≡ false
 closes_dot [] h = refl
-closes_dot (b ∷ bs) h = elim (or_cases (list_any (λ k. b == k) closers) ((b == 46) && begins_stop bs) h) [
+closes_dot (b ∷ bs) h = elim (or_cases (list_any (λ k. b == k) closers) ((b == 46) && begins_stop bs) (closes_parts b bs h).0) [
   | inl m ↦ no_dot b bs (in_list b closers (λ k. not (k == 46)) refl m)
   | inr m ↦ two_dots b bs (and_parts (b == 46) (begins_stop bs) m).1
 ]
@@ -255,6 +263,10 @@ no_comment (b ∷ bs) h = ap (λ (x : Bool). x && begins_with bs (codes "*")) (f
 pub no_comment_open : (rest : List ℕ) → avoids rest (codes "*") ≡ true → is_comment (40 ∷ rest) ≡ false
 no_comment_open [] h = refl
 no_comment_open (b ∷ bs) h = ap (λ (x : Bool). x && begins_with bs []) (first_is_not b 42 bs h)
+
+pub no_power : (rest : List ℕ) → avoids rest (codes "^") ≡ true → begins_with rest (codes "^") ≡ false
+no_power [] h = refl
+no_power (b ∷ bs) h = ap (λ (x : Bool). x && begins_with bs []) (first_is_not b 94 bs h)
 
 pub no_fraction : (text : List ℕ) → avoids text (codes ".") ≡ true → is_fraction text ≡ false
 no_fraction [] h = refl

@@ -1,23 +1,19 @@
 -- The tokens of a text, one cut off after another.
-use Rattle.std.proofs.Common.{inl, inr, ◌⊎◌, ℕ, zero, suc, ◌+◌, ◌-◌, ◌<◌, ◌≤◌, ◌≡◌, ◌≢◌, Bool, true, false, not, ◌&&◌, ◌||◌, ◌==◌, cond, max, List, [], ◌∷◌, ◌++◌, length, take, drop, get_or, refl, sym, ap, ◌∙◌, arith, codes, subst, ltb, leb, append_assoc, append-nil}
-use Rattle.std.specs.Prelude.{Option, Some, None, map, nat_lt}
-use Rattle.std.specs.List.{list_any, prefix_len}
-use Rattle.std.specs.Str.{IsUtf8, chars}
-use Rattle.std.specs.Char.{encode_utf8, len_utf8}
+use Rattle.std.proofs.Common.{ℕ, zero, suc, ◌+◌, ◌-◌, ◌<◌, ◌≡◌, Bool, true, false, not, ◌&&◌, ◌==◌, cond, List, [], ◌∷◌, ◌++◌, length, take, drop, get_or, refl, sym, ap, ◌∙◌, arith, codes, ltb}
+use Rattle.std.specs.Prelude.{None, map, nat_lt}
+use Rattle.std.specs.List.{list_any}
+use Rattle.std.specs.Str.{IsUtf8}
 use Rattle.std.proofs.lemmas.List.{take-append-le, drop-append-le, take_all, drop_all}
-use Rattle.std.proofs.lemmas.Bool.{cases_Bool, cond-true, cond-false, and_parts, or_parts, or_cases, eqb-true, ne_eqb, true≢false, lt-ltb, agree_below_at, agree_below, not-true, le-ltb}
+use Rattle.std.proofs.lemmas.Bool.{cond-true, cond-false, true≢false, lt-ltb}
 use Rattle.std.proofs.lemmas.Bool.Decides.{nat_tests}
 use Rattle.std.proofs.lemmas.Str.{chars_past_char, encode_ascii, IsUtf8-append, IsUtf8-nil, IsUtf8-from_ascii}
-use Rattle.unicode_ident.proofs.Computing.{unicode_ident}
-use Rattle.wl_ports.specs.Name.{begins_name, continues_name}
+use Rattle.wl_ports.specs.Name.{begins_name}
 use Rattle.wl_scan.specs.Characters.{is_blank, is_digit}
-use Rattle.wl_scan.specs.Lengths.{blank_length, digits_length, name_length, spelled_length, blanks_length, underscores_length, sign_length, signs, is_lone_dot, is_quote}
-use Rattle.wl_scan.specs.Tokens.{Lexeme, Scanned, found, scanned_from, coming, nothing, token_before, is_comment, commented, token_found, is_fraction, chosen, longest, rows}
-use Rattle.wl_scan.specs.Scanning.{word_or_sign}
+use Rattle.wl_scan.specs.Lengths.{blank_length, name_length, spelled_length, blanks_length, marks_length, signs}
+use Rattle.wl_scan.specs.Tokens.{found, scanned_from, coming, token_before, is_comment, commented, token_found, is_fraction, chosen, longest, rows}
 use Rattle.wl_scan.specs.declared.token.Kind.{Kind}
-use Rattle.wl_scan.specs.declared.token.Kind.TheVariants.{Number, Name, Pattern, Slot, Out, Text, Sign}
-use Rattle.wl_scan.specs.declared.found.Found.{Found}
-use Rattle.wl_scan.specs.declared.found.Found.TheVariants.{Gap, Lexed, Fault}
+use Rattle.wl_scan.specs.declared.token.Kind.TheVariants.{Sign}
+use Rattle.wl_scan.specs.declared.found.Found.TheVariants.{Gap, Lexed}
 use Rattle.wl_scan.proofs.Rows.{BeginsWordOrSign, word_is_name, unspaced}
 use Rattle.wl_syntax.specs.Lexer.{grammar_token, token_of_kind}
 use Rattle.wl_syntax.specs.Token.{Token}
@@ -109,10 +105,10 @@ pub record BeginsSign (c : ℕ) : Type 0 where
 pub no_name_byte : (b : ℕ) (bs : List ℕ) → IsUtf8 (b ∷ bs) → b < 128 → begins_name b ≡ false → name_length (b ∷ bs) ≡ 0
 no_name_byte b bs u l n = ap (spelled_length true) (chars_past_char (b ∷ bs) bs b u (ap (λ (l : List ℕ). l ++ bs) (sym (encode_ascii b l)))) ∙ cond-false (begins_name b) _ _ n
 
-no_marks_byte : (b : ℕ) (bs : List ℕ) → (b == 95) ≡ false → underscores_length (b ∷ bs) ≡ 0
+no_marks_byte : (b : ℕ) (bs : List ℕ) → (b == 95) ≡ false → marks_length (b ∷ bs) ≡ 0
 no_marks_byte b bs n = cond-false (b == 95) _ _ n
 
-no_blanks_from : (text : List ℕ) → underscores_length text ≡ 0 → blanks_length text ≡ 0
+no_blanks_from : (text : List ℕ) → marks_length text ≡ 0 → blanks_length text ≡ 0
 no_blanks_from text e = rw e refl
 
 begins_word : (c : ℕ) (cs : List ℕ) → BeginsSign c → BeginsWordOrSign (c ∷ cs)

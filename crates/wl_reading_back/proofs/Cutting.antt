@@ -1,9 +1,9 @@
 -- A printed text is cut into the tokens that its syntax tree reads as.
-use Rattle.std.proofs.Common.{inl, inr, ◌⊎◌, ℕ, ℤ, zero, suc, ◌+◌, ◌-◌, ◌^◌, ◌<◌, ◌≤◌, ◌≡◌, ◌≢◌, Bool, true, false, not, ◌&&◌, ◌||◌, ◌==◌, cond, List, [], ◌∷◌, ◌++◌, length, refl, sym, ap, ◌∙◌, arith, codes, subst, append_assoc, append-nil}
+use Rattle.std.proofs.Common.{inl, inr, ◌⊎◌, ℕ, ℤ, suc, ◌+◌, ◌^◌, ◌<◌, ◌≤◌, ◌≡◌, Bool, true, false, not, ◌&&◌, ◌||◌, ◌==◌, cond, List, [], ◌∷◌, ◌++◌, length, refl, sym, ap, ◌∙◌, arith, codes, subst, append_assoc, append-nil}
 use Rattle.std.specs.Prelude.{nat_lt, pos, negsuc, decimal, unsigned_abs}
 use Rattle.std.specs.Fmt.{signed_decimal}
 use Rattle.std.specs.List.{list_any, list_all}
-use Rattle.std.specs.Str.{IsUtf8, bytes_eq, chars}
+use Rattle.std.specs.Str.{IsUtf8, bytes_eq}
 use Rattle.std.proofs.lemmas.Bool.{cases_Bool, cond_both, or_left, and_parts, and_from, not-true, true≢false, agree_below, ltb-true}
 use Rattle.std.proofs.lemmas.Str.{IsUtf8-nil}
 use Rattle.std.proofs.lemmas.Slice.Eq.{bytes_eq-Decides}
@@ -14,18 +14,17 @@ use Rattle.wl_syntax.specs.declared.operator.Infix.TheVariants as read_infix
 use Rattle.wl_syntax.specs.Chain.{is_chain}
 use Rattle.unicode_ident.proofs.Computing.{unicode_ident}
 use Rattle.wl_ports.specs.Name.{begins_name}
-use Rattle.wl_exact.specs.Fraction.{Fraction, IsNumber}
 use Rattle.wl_form.specs.declared.operator.Infix.{Infix}
 use Rattle.wl_form.specs.declared.operator.Infix.TheVariants.{Message, PatternTest, Map, Apply, StringJoin, Power, Times, Plus, Minus, Equal, Unequal, Less, LessEqual, Greater, GreaterEqual, SameQ, UnsameQ, And, Or, Alternatives, Colon, StringExpression, Condition, Rule, RuleDelayed, ReplaceAll, ReplaceRepeated, AddTo, SubtractFrom, TimesBy, DivideBy, Set, SetDelayed, UpSet, UpSetDelayed, Semi}
 use Rattle.wl_form.specs.declared.operator.Prefix.{Prefix}
 use Rattle.wl_form.specs.declared.operator.Prefix.TheVariants.{Negate, Not}
 use Rattle.wl_form.specs.declared.operator.Postfix.{Postfix}
 use Rattle.wl_form.specs.declared.operator.Postfix.TheVariants.{Factorial, Repeated, RepeatedNull, Function}
-use Rattle.wl_form.specs.Operators.{infix_level, infix_text, prefix_level, prefix_text, postfix_level, postfix_text, marks_text}
-use Rattle.wl_form.specs.Shown.{Shown, number, name, string, pattern, slot, parens, braces, call, part, before, after, chain, ended, Elems, none, more, Links, nothing, behind, level, links_level, number_level, number_text, is_below_zero, text_of, elems_text, links_text, comma_after, quoted, slot_marks}
+use Rattle.wl_form.specs.Operators.{infix_text, prefix_level, prefix_text, postfix_level, postfix_text, marks_text}
+use Rattle.wl_form.specs.Shown.{Shown, number, name, string, pattern, slot, parens, braces, call, part, before, after, chain, ended, Elems, none, more, Links, nothing, behind, level, links_level, is_below_zero, text_of, elems_text, links_text, comma_after, quoted, slot_marks}
 use Rattle.wl_form.specs.Texts.{ends_in_stop}
 use Rattle.wl_scan.specs.Characters.{is_blank, is_digit}
-use Rattle.wl_scan.specs.Lengths.{blank_length, signs}
+use Rattle.wl_scan.specs.Lengths.{blank_length, signs, begins_with}
 use Rattle.wl_scan.specs.Tokens.{is_comment, is_fraction}
 use Rattle.wl_scan.specs.declared.token.Kind.TheVariants as kind
 use Rattle.wl_syntax.specs.declared.operator.Sign.TheVariants as sign
@@ -35,11 +34,11 @@ use Rattle.wl_syntax.specs.Token.{Token}
 use Rattle.wl_syntax.specs.Token as token
 use Rattle.wl_syntax.specs.Tree as tree
 use Rattle.wl_syntax.specs.Tree.{reads, read_elems, sign_tokens}
-use Rattle.wl_reading_back.specs.Written.{as_infix, as_prefix, as_postfix, written, written_elems, linked, signed, digits_of}
+use Rattle.wl_reading_back.specs.Written.{as_infix, as_postfix, written, written_elems, linked, signed, digits_of}
 use Rattle.wl_reading_back.proofs.Signs.{avoids, further, is_among}
-use Rattle.wl_reading_back.proofs.Classes.{first_is_not, closers, begins_stop, in_list, is_part, avoids_less, IsWord, word_some, word_avoids, odd, closes, closer, closes_avoids, closes_digits, digit_avoids, no_blank_first, no_comment_open}
+use Rattle.wl_reading_back.proofs.Classes.{first_is_not, closers, begins_stop, in_list, is_part, avoids_less, word_some, word_avoids, odd, closes, closes_avoids, digit_avoids, no_blank_first, no_comment_open, no_power}
 use Rattle.wl_reading_back.proofs.Cut.{Scans, scans_token, scans_space, scans_sign, BeginsSign, utf8_more}
-use Rattle.wl_reading_back.proofs.Words.{MaybeWord, PatternEnd, pattern_utf8, pattern_found, pattern_avoids, odd_but_marks, name_found, writes_number, number_cut, digits_ascii, slot_cut, string_cut, quoted_utf8, quoted_is, Writes, AllDigit}
+use Rattle.wl_reading_back.proofs.Words.{pattern_utf8, pattern_found, pattern_avoids, odd_but_marks, name_found, writes_number, number_cut, digits_ascii, slot_cut, string_cut, quoted_utf8, quoted_is, AllDigit}
 use Rattle.wl_reading_back.proofs.Well.{Well, WellElems, WellLinks, GoesOnFrom, NoStop, chain_strict, fitting_le, low_links}
 
 -- bytes that begin a sign
@@ -355,10 +354,16 @@ avoids_none (b ∷ bs) = refl
 
 -- brackets, commas and spaces may follow any end
 abbrev free : List ℕ
-free = codes " )]},*^?:[/"
+free = codes " )]},*?:[/"
+
+free_closes : (b : ℕ) (bs : List ℕ) → list_any (λ k. b == k) free ≡ true → closes (b ∷ bs) ≡ true
+free_closes b bs m =
+    and_from (list_any (λ k. b == k) closers || ((b == 46) && begins_stop bs)) (not (begins_with (b ∷ bs) (codes "^^")))
+    (or_left (list_any (λ k. b == k) closers) ((b == 46) && begins_stop bs) (in_list b free (λ c. list_any (λ k. c == k) closers) refl m))
+    (ap (λ (x : Bool). not (x && begins_with bs (codes "^"))) (not-true (b == 94) (in_list b free (λ c. not (c == 94)) refl m)))
 
 allowed_by : (e : End) (b : ℕ) (bs : List ℕ) → list_any (λ k. b == k) free ≡ true → Allowed e (b ∷ bs)
-allowed_by e b bs m = record { closes = or_left (list_any (λ k. b == k) closers) ((b == 46) && begins_stop bs) (in_list b free (λ c. list_any (λ k. c == k) closers) refl m); apart = go e }
+allowed_by e b bs m = record { closes = free_closes b bs m; apart = go e }
   where
     go : (e : End) → not (list_any (λ k. b == k) (held e)) ≡ true
     go plain = refl
@@ -366,9 +371,9 @@ allowed_by e b bs m = record { closes = or_left (list_any (λ k. b == k) closers
     go bang = in_list b free (λ c. not (list_any (λ k. c == k) (codes "!"))) refl m
     go semi = in_list b free (λ c. not (list_any (λ k. c == k) (codes ";"))) refl m
 
-infix_closes : (o : Infix) (X : List ℕ) → closes (infix_text o ++ X) ≡ true
-infix_closes Message X = refl
-infix_closes _ X = refl
+infix_closes : (o : Infix) (X : List ℕ) → avoids X apart ≡ true → closes (infix_text o ++ X) ≡ true
+infix_closes Power X a = ap not (no_power X (avoids_less X (codes "^") apart refl a))
+infix_closes _ X a = refl
 
 infix_stop : (o : Infix) (X : List ℕ) → avoids (infix_text o ++ X) (codes ".") ≡ true
 infix_stop Message X = refl
@@ -378,11 +383,11 @@ infix_bang : (o : Infix) (X : List ℕ) → avoids (infix_text o ++ X) (codes "!
 infix_bang Message X = refl
 infix_bang _ X = refl
 
-infix_allowed : (e : End) (o : Infix) (X : List ℕ) → rank e < 30 → Allowed e (infix_text o ++ X)
-infix_allowed plain o X r = record { closes = infix_closes o X; apart = avoids_none (infix_text o ++ X) }
-infix_allowed stop o X r = record { closes = infix_closes o X; apart = infix_stop o X }
-infix_allowed bang o X r = record { closes = infix_closes o X; apart = infix_bang o X }
-infix_allowed semi o X r = absurd (omega (arith, r))
+infix_allowed : (e : End) (o : Infix) (X : List ℕ) → avoids X apart ≡ true → rank e < 30 → Allowed e (infix_text o ++ X)
+infix_allowed plain o X a r = record { closes = infix_closes o X a; apart = avoids_none (infix_text o ++ X) }
+infix_allowed stop o X a r = record { closes = infix_closes o X a; apart = infix_stop o X }
+infix_allowed bang o X a r = record { closes = infix_closes o X a; apart = infix_bang o X }
+infix_allowed semi o X a r = absurd (omega (arith, r))
 
 semi_allowed : (e : End) (X : List ℕ) → rank e < 30 → Allowed e (59 ∷ X)
 semi_allowed plain X r = record { closes = refl; apart = refl }
@@ -579,5 +584,5 @@ mutual
   cut_links q s (behind ls o t) m r f w rest ks a h =
       recut _ _ _ _ (link_text (text_of s) (links_text ls) (infix_text o) (text_of t) rest)
       (sym (append_assoc (reads (linked (written s) ls)) (sign_tokens (infix_sign (as_infix o)) ++ reads (written t)) ks ∙ ap (λ l. reads (linked (written s) ls) ++ l) (append_assoc (sign_tokens (infix_sign (as_infix o))) (reads (written t)) ks)))
-      (cut_links q s ls m r f w.0 (infix_text o ++ (text_of t ++ rest)) _ (infix_allowed (end_behind (end_of s) ls) o (text_of t ++ rest) (links_rank q s ls m r w.0 (links_chain q ls o w.5)))
+      (cut_links q s ls m r f w.0 (infix_text o ++ (text_of t ++ rest)) _ (infix_allowed (end_behind (end_of s) ls) o (text_of t ++ rest) (begins_apart t w.1 rest) (links_rank q s ls m r w.0 (links_chain q ls o w.5)))
       (cut_infix o (text_of t ++ rest) _ (begins_apart t w.1 rest) (cut t w.1 rest ks a h)))

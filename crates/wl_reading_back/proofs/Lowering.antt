@@ -1,36 +1,31 @@
 -- What the syntax tree of a printed text stands for.
-use Rattle.std.proofs.Common.{inl, inr, ◌⊎◌, ℕ, ℤ, zero, suc, ◌+◌, ◌-◌, ◌^◌, ◌<◌, ◌≤◌, ◌≡◌, ◌≢◌, Bool, true, false, not, ◌&&◌, ◌||◌, ◌==◌, cond, List, [], ◌∷◌, ◌++◌, length, refl, sym, ap, ◌∙◌, arith, codes, subst, append_assoc, append-nil}
-use Rattle.std.specs.Prelude.{nat_lt, nat_le, pos, negsuc, neg_ℤ, decimal, unsigned_abs, if◌then◌else◌, Option, Some, None}
-use Rattle.std.specs.List.{list_any, list_all}
-use Rattle.std.specs.Str.{IsUtf8, bytes_eq, chars}
-use Rattle.std.proofs.lemmas.Bool.{cases_Bool, cond_both, cond-true, cond-false, not-true, true≢false, and_parts, eqb-true}
+use Rattle.std.proofs.Common.{inl, inr, ℕ, ℤ, ◌<◌, ◌≡◌, Bool, true, false, ◌&&◌, ◌||◌, ◌==◌, cond, List, [], ◌∷◌, ◌++◌, refl, sym, ap, ◌∙◌, arith, codes, subst}
+use Rattle.std.specs.Prelude.{pos, negsuc}
+use Rattle.std.specs.Str.{bytes_eq}
+use Rattle.std.proofs.lemmas.Bool.{cases_Bool, cond-true, cond-false}
 use Rattle.std.proofs.lemmas.Bool.Decides.{nat_tests}
 use Rattle.std.proofs.lemmas.Slice.Eq.{bytes_eq-Decides}
-use Rattle.wl_exact.specs.Fraction.{Fraction, IsNumber}
 use Rattle.wl_expr.specs.Tree as full
 use Rattle.wl_expr.specs.Tree.{from_list}
 use Rattle.wl_form.specs.declared.operator.Infix.{Infix}
-use Rattle.wl_form.specs.declared.operator.Infix.TheVariants.{Message, PatternTest, Map, Apply, StringJoin, Power, Times, Plus, Minus, Equal, Unequal, Less, LessEqual, Greater, GreaterEqual, SameQ, UnsameQ, And, Or, Alternatives, Colon, StringExpression, Condition, Rule, RuleDelayed, ReplaceAll, ReplaceRepeated, AddTo, SubtractFrom, TimesBy, DivideBy, Set, SetDelayed, UpSet, UpSetDelayed, Semi}
-use Rattle.wl_form.specs.declared.operator.Prefix.{Prefix}
-use Rattle.wl_form.specs.declared.operator.Prefix.TheVariants.{Negate, Not}
+use Rattle.wl_form.specs.declared.operator.Infix.TheVariants.{StringJoin, Times, Plus, Minus, Equal, Unequal, Less, LessEqual, Greater, GreaterEqual, SameQ, UnsameQ, And, Or, Alternatives, StringExpression, Set, SetDelayed, Semi}
 use Rattle.wl_form.specs.declared.operator.Postfix.{Postfix}
 use Rattle.wl_form.specs.declared.operator.Postfix.TheVariants.{Factorial, Repeated, RepeatedNull, Function}
-use Rattle.wl_form.specs.Operators.{infix_level, prefix_level, postfix_level}
-use Rattle.wl_form.specs.Shown.{Shown, number, name, string, pattern, slot, parens, braces, call, part, before, after, chain, ended, Elems, none, more, Links, nothing, behind, level, links_level, is_below_zero, operand, operand_or_equal, right_operand}
+use Rattle.wl_form.specs.Operators.{infix_level, postfix_level}
+use Rattle.wl_form.specs.Shown.{Shown, number, name, string, pattern, slot, parens, braces, call, part, before, after, chain, ended, Links, nothing, behind, level, links_level}
 use Rattle.wl_syntax.specs.declared.chain.Form.{Form}
 use Rattle.wl_syntax.specs.declared.chain.Form.TheVariants as form_is
-use Rattle.wl_syntax.specs.declared.chain.Link.{Link}
-use Rattle.wl_syntax.specs.declared.chain.Link.TheVariants.{Alone, Starts, GoesOn, Mixes, MixesOn, Nests, NestsOn}
+use Rattle.wl_syntax.specs.declared.chain.Link.TheVariants.{Alone, Starts, GoesOn}
 use Rattle.wl_syntax.specs.declared.operator.Infix.TheVariants as read_infix
-use Rattle.wl_syntax.specs.Atoms.{named, atom_tree, whole_number}
+use Rattle.wl_syntax.specs.Atoms.{named}
 use Rattle.wl_syntax.specs.Chain as chains
 use Rattle.wl_syntax.specs.Chain.{is_chain, is_comparison, is_sameness, link_to_chain, link_of_chain, link, form}
-use Rattle.wl_syntax.specs.Lower.{whole, reach, items, elements, lower, operand_of, pair_of, colon_of, joined, chained}
+use Rattle.wl_syntax.specs.Lower.{whole, reach, items, lower, operand_of, joined}
 use Rattle.wl_syntax.specs.Table as table
 use Rattle.wl_syntax.specs.Tree as tree
 use Rattle.wl_syntax.specs.Tree.{Tree}
-use Rattle.wl_reading_back.specs.Written.{as_infix, as_prefix, as_postfix, written, written_elems, linked, signed, digits_of}
-use Rattle.wl_reading_back.proofs.Well.{Well, WellElems, WellLinks, GoesOnFrom, same_infix_level}
+use Rattle.wl_reading_back.specs.Written.{as_infix, as_postfix, written, linked, signed, digits_of}
+use Rattle.wl_reading_back.proofs.Well.{Well, WellLinks, same_infix_level}
 
 -- the levels of the chains by their heads
 key : List ℕ → ℕ

@@ -1,49 +1,48 @@
 -- What is printed of an expression keeps the levels and stands for the expression, its fractions spelled out.
-use Rattle.std.proofs.Common.{inl, inr, ◌⊎◌, ℕ, ℤ, zero, suc, ◌+◌, ◌-◌, ◌^◌, ◌<◌, ◌≤◌, ◌≡◌, ◌≢◌, Bool, true, false, not, ◌&&◌, ◌||◌, ◌==◌, cond, List, [], ◌∷◌, ◌++◌, length, refl, sym, ap, ◌∙◌, arith, codes, subst, append_assoc, append-nil, ltb, leb}
-use Rattle.std.specs.Prelude.{nat_lt, nat_le, pos, negsuc, neg_ℤ, decimal, unsigned_abs, Option, Some, None}
-use Rattle.std.specs.Str.{IsUtf8, bytes_eq, chars}
-use Rattle.std.proofs.lemmas.Bool.{cases_Bool, cond_both, cond-true, cond-false, not-true, true≢false, and_parts, eqb-true, ne_eqb, ltb-true, leb-true}
+use Rattle.std.proofs.Common.{inl, inr, ℕ, ℤ, zero, suc, ◌^◌, ◌<◌, ◌≤◌, ◌≡◌, Bool, true, false, not, ◌&&◌, ◌==◌, cond, List, [], ◌∷◌, ◌++◌, length, refl, sym, ap, ◌∙◌, arith, codes, subst, append_assoc, append-nil}
+use Rattle.std.specs.Prelude.{nat_lt, nat_le, pos, negsuc, neg_ℤ, unsigned_abs, Option, Some, None}
+use Rattle.std.specs.Str.{bytes_eq}
+use Rattle.std.proofs.lemmas.Bool.{cases_Bool, cond_both, cond-true, cond-false, not-true, and_parts, eqb-true, ne_eqb, ltb-true, leb-true}
 use Rattle.std.proofs.lemmas.Bool.Decides.{nat_tests}
 use Rattle.std.proofs.lemmas.Slice.Eq.{bytes_eq-Decides}
-use Rattle.wl_exact.specs.Fraction.{Fraction, IsNumber, of_int}
+use Rattle.wl_exact.specs.Fraction.{Fraction, IsNumber}
 use Rattle.wl_exact.specs.Gcd.{gcd}
 use Rattle.wl_ports.specs.Name.{is_name}
 use Rattle.wl_expr.specs.Tree as full
 use Rattle.wl_expr.specs.Tree.{from_list, to_list, from_list_to_list}
 use Rattle.wl_expr.specs.Proper.{IsProper, AreProper}
 use Rattle.wl_form.specs.declared.operator.Infix.{Infix}
-use Rattle.wl_form.specs.declared.operator.Infix.TheVariants.{Message, PatternTest, Map, Apply, StringJoin, Power, Times, Plus, Minus, Equal, Unequal, Less, LessEqual, Greater, GreaterEqual, SameQ, UnsameQ, And, Or, Alternatives, Colon, StringExpression, Condition, Rule, RuleDelayed, ReplaceAll, ReplaceRepeated, AddTo, SubtractFrom, TimesBy, DivideBy, Set, SetDelayed, UpSet, UpSetDelayed, Semi}
-use Rattle.wl_form.specs.declared.operator.Prefix.{Prefix}
-use Rattle.wl_form.specs.declared.operator.Prefix.TheVariants.{Negate, Not}
+use Rattle.wl_form.specs.declared.operator.Infix.TheVariants.{Message, PatternTest, Map, Apply, Power, Times, Plus, Minus, Colon, Condition, Rule, RuleDelayed, ReplaceAll, ReplaceRepeated, AddTo, SubtractFrom, TimesBy, DivideBy, Set, SetDelayed, UpSet, UpSetDelayed, Semi}
+use Rattle.wl_form.specs.declared.operator.Prefix.TheVariants.{Not}
 use Rattle.wl_form.specs.declared.operator.Postfix.{Postfix}
 use Rattle.wl_form.specs.declared.operator.Postfix.TheVariants.{Factorial, Repeated, RepeatedNull, Function}
 use Rattle.wl_form.specs.declared.operator.Marks.{Marks}
-use Rattle.wl_form.specs.declared.operator.Marks.TheVariants.{One, Two, Three}
+use Rattle.wl_form.specs.declared.operator.Marks.TheVariants.{One}
 use Rattle.wl_form.specs.declared.operator.Row.{Row}
 use Rattle.wl_form.specs.declared.operator.Row.TheVariants as row
-use Rattle.wl_form.specs.Operators.{infix_level, prefix_level, postfix_level, takes_equal}
+use Rattle.wl_form.specs.Operators.{infix_level, postfix_level, takes_equal}
 use Rattle.wl_form.specs.Heads.{row_of}
-use Rattle.wl_form.specs.Shown.{Shown, number, name, string, pattern, slot, parens, braces, call, part, before, after, chain, ended, Elems, none, more, Links, nothing, behind, level, links_level, number_level, is_negative, is_below_zero, operand, operand_or_equal, right_operand, text_of}
-use Rattle.wl_form.specs.Table.{Showing, added, taken_off, opposite, number_showing, elems_after, elems, links_after, joined, terms_after, part_of, all_but_last, is_number, is_minus_one, ends_in_null, Turn, opposed, dropped, stays, turn_of, first_number, product, product_by, statements, blanks_of, blanks_by, named_blanks, or_else, colon, pattern_of, default_by, default_named, default_of_pattern, default_of, is_symbol, optional_of, slot_by, slot_of, message_of, by_row, showing, showings, shown}
-use Rattle.wl_form.specs.Texts.{spelled, all_spelled, spelled_number, is_clean, are_clean, stops, ends_in_stop, input_text}
+use Rattle.wl_form.specs.Shown.{Shown, number, name, string, pattern, slot, parens, braces, call, part, before, after, chain, ended, Elems, none, more, Links, nothing, behind, level, links_level, is_negative, is_below_zero, operand, operand_or_equal, right_operand, text_of}
+use Rattle.wl_form.specs.Table.{Showing, added, taken_off, opposite, number_showing, elems_after, elems, links_after, joined, terms_after, part_of, all_but_last, is_number, is_minus_one, ends_in_null, Turn, opposed, dropped, stays, turn_of, first_number, product, product_by, statements, blanks_of, blanks_by, or_else, colon, pattern_of, default_by, default_named, default_of_pattern, default_of, is_symbol, optional_of, slot_of, message_of, by_row, showing, showings}
+use Rattle.wl_form.specs.Texts.{spelled, all_spelled, spelled_number, stops, ends_in_stop}
 use Rattle.wl_syntax.specs.declared.chain.Form.{Form}
 use Rattle.wl_syntax.specs.declared.chain.Form.TheVariants as form_is
 use Rattle.wl_syntax.specs.declared.chain.Link.{Link}
 use Rattle.wl_syntax.specs.declared.chain.Link.TheVariants.{Starts, GoesOn}
 use Rattle.wl_syntax.specs.declared.operator.Infix.TheVariants as read_infix
-use Rattle.wl_syntax.specs.Atoms.{named, atom_tree, whole_number, bound}
+use Rattle.wl_syntax.specs.Atoms.{named, whole_number, bound}
 use Rattle.wl_syntax.specs.Chain as chains
 use Rattle.wl_syntax.specs.Chain.{is_chain, link, form}
-use Rattle.wl_syntax.specs.Lower.{whole, reach, items, elements, lower, operand_of, colon_of, negative, negated_at, is_product, minus_one, joined_reach, reach_in, further, statements as lowered_statements}
+use Rattle.wl_syntax.specs.Lower.{whole, reach, items, elements, lower, operand_of, colon_of, negative, negated_at, is_product, minus_one, joined_reach, further, statements as lowered_statements}
 use Rattle.wl_syntax.specs.Table as table
 use Rattle.wl_syntax.specs.Tree as tree
 use Rattle.wl_syntax.specs.Tree.{Tree}
-use Rattle.wl_reading_back.specs.Written.{as_infix, as_prefix, as_postfix, written, written_elems, linked, signed, number_tree, digits_of}
+use Rattle.wl_reading_back.specs.Written.{as_infix, as_postfix, written, written_elems, linked, signed, number_tree, digits_of}
 use Rattle.wl_reading_back.proofs.Classes.{IsWord, word_some}
-use Rattle.wl_reading_back.proofs.Words.{MaybeWord, PatternEnd}
-use Rattle.wl_reading_back.proofs.Well.{Well, WellElems, WellLinks, GoesOnFrom, OnNames, NoStop, fits_right, same_infix_level, same_name}
-use Rattle.wl_reading_back.proofs.Lowering.{Tame, tame, value_of, values_of, ChainOf, chain_of, chain_value, lower_chain, alone_form, starts, goes_on}
-use Rattle.wl_reading_back.proofs.Back.{string_back, digits_back, number_back, slot_back, slot_name, pattern_plain, pattern_head, pattern_default, blank_name}
+use Rattle.wl_reading_back.proofs.Words.{MaybeWord}
+use Rattle.wl_reading_back.proofs.Well.{Well, WellElems, WellLinks, GoesOnFrom, OnNames, NoStop, fits_right, same_name}
+use Rattle.wl_reading_back.proofs.Lowering.{Tame, tame, value_of, values_of, ChainOf, chain_of, chain_value, alone_form, starts}
+use Rattle.wl_reading_back.proofs.Back.{digits_back, number_back, slot_back, slot_name, pattern_plain, pattern_head, pattern_default, blank_name}
 use Rattle.wl_reading_back.proofs.Rowed.{row_name, is_pair, is_plain_chain, row_ok, is_call, Headed, headed}
 
 -- operands

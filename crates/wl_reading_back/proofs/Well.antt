@@ -1,21 +1,18 @@
 -- What is printed keeps the levels: each operand fits its operator. From this alone the syntax tree of a printed text is right.
-use Rattle.std.proofs.Common.{ℕ, ℤ, Bool, true, false, ◌≡◌, ◌<◌, ◌≤◌, ◌⊎◌, inl, inr, List, [], ◌∷◌, ◌++◌, refl, sym, ap, ◌∙◌, subst, arith, cond, codes, ltb, leb}
-use Rattle.std.specs.Prelude.{nat_lt, nat_le, ◌||◌, ◌&&◌, ◌==◌, ◌^◌, pos, negsuc}
+use Rattle.std.proofs.Common.{ℕ, ℤ, Bool, true, false, ◌≡◌, ◌<◌, ◌≤◌, ◌⊎◌, inl, List, [], ◌∷◌, refl, sym, ◌∙◌, subst, arith, cond}
+use Rattle.std.specs.Prelude.{nat_lt, nat_le, ◌==◌, ◌^◌, pos, negsuc}
 use Rattle.std.specs.Str.{IsUtf8, bytes_eq}
-use Rattle.std.proofs.lemmas.Bool.{cases_Bool, cond_both, cond-true, cond-false, eqb-true, eqb-false}
 use Rattle.std.proofs.lemmas.Bool.Decides.{nat_tests}
 use Rattle.std.proofs.lemmas.Slice.Eq.{bytes_eq-Decides}
-use Rattle.wl_exact.specs.Fraction.{Fraction, IsNumber}
+use Rattle.wl_exact.specs.Fraction.{IsNumber}
 use Rattle.wl_form.specs.declared.operator.Infix.{Infix}
-use Rattle.wl_form.specs.declared.operator.Infix.TheVariants.{Message, PatternTest, Map, Apply, StringJoin, Power, Times, Plus, Minus, Equal, Unequal, Less, LessEqual, Greater, GreaterEqual, SameQ, UnsameQ, And, Or, Alternatives, Colon, StringExpression, Condition, Rule, RuleDelayed, ReplaceAll, ReplaceRepeated, AddTo, SubtractFrom, TimesBy, DivideBy, Set, SetDelayed, UpSet, UpSetDelayed, Semi}
+use Rattle.wl_form.specs.declared.operator.Infix.TheVariants.{Message, Semi}
 use Rattle.wl_form.specs.declared.operator.Prefix.{Prefix}
 use Rattle.wl_form.specs.declared.operator.Prefix.TheVariants.{Negate, Not}
 use Rattle.wl_form.specs.declared.operator.Postfix.{Postfix}
-use Rattle.wl_form.specs.declared.operator.Postfix.TheVariants.{Factorial, Repeated, RepeatedNull, Function}
-use Rattle.wl_form.specs.declared.operator.Marks.{Marks}
-use Rattle.wl_form.specs.declared.operator.Marks.TheVariants.{One, Two, Three}
+use Rattle.wl_form.specs.declared.operator.Postfix.TheVariants.{Factorial, Repeated, RepeatedNull}
 use Rattle.wl_form.specs.Operators.{infix_level, prefix_level, postfix_level, takes_equal}
-use Rattle.wl_form.specs.Shown.{Shown, number, name, string, pattern, slot, parens, braces, call, part, before, after, chain, ended, Elems, none, more, Links, nothing, behind, level, links_level, number_level, is_negative, is_below_zero, text_of}
+use Rattle.wl_form.specs.Shown.{Shown, number, name, string, pattern, slot, parens, braces, call, part, before, after, chain, ended, Elems, none, more, Links, nothing, behind, level, links_level, is_below_zero, text_of}
 use Rattle.wl_form.specs.Texts.{ends_in_stop}
 use Rattle.wl_syntax.specs.declared.operator.Infix.TheVariants as read_infix
 use Rattle.wl_syntax.specs.Chain.{is_chain}
@@ -25,7 +22,7 @@ use Rattle.wl_syntax.specs.Tree as tree
 use Rattle.wl_syntax.specs.Tree.{Tree, right_edge, left_edge, ends_last, Each, TakesLeft, TakesRight, Right, RightElems, Asks}
 use Rattle.wl_reading_back.proofs.Classes.{IsWord}
 use Rattle.wl_reading_back.proofs.Words.{MaybeWord, PatternEnd}
-use Rattle.wl_reading_back.specs.Written.{as_infix, as_prefix, as_postfix, written, written_elems, linked, signed, number_tree, digits_of}
+use Rattle.wl_reading_back.specs.Written.{as_infix, as_prefix, as_postfix, written, written_elems, linked, signed, digits_of}
 
 abbrev pub IsNamed : Shown → Type 0
 IsNamed s = (x : List ℕ) × (s ≡ name x)

@@ -1,35 +1,36 @@
 -- Names, numbers, patterns, slots and strings are cut off whole.
-use Rattle.std.proofs.Common.{inl, inr, ◌⊎◌, ℕ, zero, suc, ◌+◌, ◌-◌, ◌*◌, ◌/◌, ◌%◌, ◌^◌, ◌<◌, ◌≤◌, ◌≡◌, ◌≢◌, Bool, true, false, not, ◌&&◌, ◌||◌, ◌==◌, cond, min, List, [], ◌∷◌, ◌++◌, length, take, drop, get_or, refl, sym, ap, ◌∙◌, arith, codes, subst, ltb, leb, append_assoc, append-nil, lt-ltb, le-ltb}
-use Rattle.std.specs.Prelude.{Option, Some, None, map, nat_lt, decimal, encode_utf8_all}
-use Rattle.std.specs.List.{list_any, list_all, prefix_len}
-use Rattle.std.specs.Str.{IsUtf8, IsAscii, chars, all_scalars}
+use Rattle.std.proofs.Common.{inl, inr, ◌⊎◌, ℕ, zero, suc, ◌+◌, ◌-◌, ◌*◌, ◌/◌, ◌%◌, ◌^◌, ◌<◌, ◌≤◌, ◌≡◌, Bool, true, false, not, ◌&&◌, ◌==◌, cond, List, [], ◌∷◌, ◌++◌, length, take, drop, get_or, refl, sym, ap, ◌∙◌, arith, codes, subst, ltb, leb, append_assoc, append-nil, lt-ltb, le-ltb}
+use Rattle.std.specs.Prelude.{Option, Some, None, decimal, encode_utf8_all}
+use Rattle.std.specs.List.{prefix_len}
+use Rattle.std.specs.Str.{IsUtf8, chars, all_scalars}
 use lib.Utf8.{scalar}
 use Rattle.std.specs.Char.{encode_utf8, len_utf8}
 use Rattle.std.specs.Option.{unwrap_or}
 use Rattle.std.proofs.lemmas.List.{length-append}
-use Rattle.std.proofs.lemmas.Bool.{cases_Bool, cond_both, cond-true, cond-false, and_parts, or_parts, or_cases, eqb-true, ne_eqb, true≢false, lt-leb, le-leb, and_from}
+use Rattle.std.proofs.lemmas.Bool.{cases_Bool, cond_both, cond-true, cond-false, and_parts, ne_eqb, true≢false, le-leb, leb-true, and_from}
 use Rattle.std.proofs.lemmas.Bool.Decides.{nat_tests}
 use Rattle.std.proofs.lemmas.Fmt.{decimal_by_steps_wide}
-use Rattle.std.proofs.lemmas.Str.{IsUtf8-append, IsUtf8-nil, encodes-append, encode_ascii, scalars-chars}
+use Rattle.std.proofs.lemmas.Str.{IsUtf8-append, IsUtf8-nil, encodes-append, scalars-chars}
 use Rattle.wl_form.specs.declared.operator.Marks.{Marks}
 use Rattle.wl_form.specs.declared.operator.Marks.TheVariants.{One, Two, Three}
 use Rattle.wl_form.specs.Operators.{marks_text}
 use Rattle.wl_form.specs.Shown.{slot_marks as marks_of_slot, escaped, all_escaped, quoted}
 use Rattle.unicode_ident.proofs.Computing.{unicode_ident}
-use Rattle.wl_ports.specs.Name.{begins_name, continues_name}
-use Rattle.wl_scan.specs.Characters.{is_blank, is_digit}
-use Rattle.wl_scan.specs.Lengths.{blank_length, digits_length, name_length, spelled_length, pattern_length, blanks_length, tail_length, underscores_length, sign_length, slot_marks, slot_length, text_length, closed_length, bad_escape, beyond, is_escape, is_lone_dot, is_quote, signs}
-use Rattle.wl_scan.specs.Tokens.{found, lexed, is_comment, token_found, is_fraction, chosen, longest, rows, decimal_value, decimal_value_after, greatest, is_long, is_word, string_lexed}
+use Rattle.wl_ports.specs.Name.{continues_name}
+use Rattle.wl_scan.specs.Characters.{is_digit, digit_value}
+use Rattle.wl_scan.specs.Lengths.{blank_length, digits_length, letters_length, is_based, number_length, begins_with, name_length, spelled_length, blanks_length, tail_length, marks_length, slot_marks, slot_length, text_length, closed_length, bad_escape, beyond, is_escape, is_lone_dot, signs}
+use Rattle.wl_scan.specs.Tokens.{found, lexed, is_comment, token_found, is_fraction, chosen, longest, rows, is_long, is_word, string_lexed, in_base}
+use Rattle.wl_scan.specs.Literals.{value_after, value_in, decimal_value, greatest, base_of, is_base, digits_start, digits_of, literal_value, fitting_length, bad_digit, digit_fault}
 use Rattle.wl_scan.specs.Scanning.{word_or_sign}
 use Rattle.wl_scan.specs.declared.token.Kind.{Kind}
-use Rattle.wl_scan.specs.declared.token.Kind.TheVariants.{Number, Name, Pattern, Slot, Out, Text, Sign}
-use Rattle.wl_scan.specs.declared.found.Found.{Found}
-use Rattle.wl_scan.specs.declared.found.Found.TheVariants.{Gap, Lexed, Fault}
+use Rattle.wl_scan.specs.declared.token.Kind.TheVariants.{Number, Name, Pattern, Slot, Text}
+use Rattle.wl_scan.specs.declared.found.Found.TheVariants.{Lexed, Fault}
+use Rattle.wl_scan.specs.declared.token.ScanKind.TheVariants.{Base}
 use Rattle.wl_scan.proofs.Rows.{BeginsWordOrSign, word_is_name, word_is_pattern, number_found, slot_found, text_found, unspaced}
 use Rattle.wl_scan.proofs.Escapes.{beyond-beyond}
 use Rattle.wl_reading_back.proofs.Signs.{avoids, further, no_sign}
 use Rattle.wl_reading_back.proofs.Cut.{drop_front, take_front, utf8_more, no_name_byte}
-use Rattle.wl_reading_back.proofs.Classes.{avoids_less, covered, digit_small, digit_avoids, odd, IsWord, word_avoids, word_length, word_some, closes, closes_digits, closes_marks, closes_dot, closes_name, closes_no_name, chars_ascii, no_digit_first, no_blank_first, first_is_not, no_comment, no_fraction}
+use Rattle.wl_reading_back.proofs.Classes.{avoids_less, covered, equal_self, digit_small, digit_avoids, odd, IsWord, word_avoids, word_length, word_some, closes, closes_digits, closes_marks, closes_base, closes_dot, closes_name, closes_no_name, chars_ascii, no_blank_first, first_is_not, no_comment, no_fraction}
 
 -- behind no blank, comment or fraction a token is looked for
 pub at_token : (text : List ℕ) → blank_length text ≡ 0 → is_comment text ≡ false → is_fraction text ≡ false → found text ≡ chosen (longest (rows text)) text
@@ -55,11 +56,14 @@ word_first w rest h = begins_odd (w ++ rest) (omega (arith, length-append w rest
 odd_token : (text : List ℕ) → avoids text odd ≡ true → found text ≡ chosen (longest (rows text)) text
 odd_token text h = at_token text (no_blank_first text (avoids_less text (12 ∷ codes " \t\n\r") odd refl h)) (no_comment text (avoids_less text (codes "(") odd refl h)) (no_fraction text (avoids_less text (codes ".") odd refl h))
 
+blanks_by : (text : List ℕ) (n : ℕ) → marks_length text ≡ n → blanks_length text ≡ (cond (n == 0) 0 (n + tail_length n (drop n text)))
+blanks_by text n e = ap (λ (n : ℕ). cond (n == 0) 0 (n + tail_length n (drop n text))) e
+
 lexed_word : (kind : Kind) (n : ℕ) → 0 < n → word_or_sign kind n 0 ≡ Lexed kind n
 lexed_word kind n some = cond-false (ltb n 0) _ _ (le-ltb n 0 (omega arith)) ∙ cond-false (n == 0) _ _ (ne_eqb n 0 (λ e. omega (arith, e, some)))
 
-no_blanks_at : (text : List ℕ) → underscores_length text ≡ 0 → blanks_length text ≡ 0
-no_blanks_at text e = ap (λ (u : ℕ). let n = min 3 u in cond (n == 0) 0 (n + tail_length n (drop n text))) e
+no_blanks_at : (text : List ℕ) → marks_length text ≡ 0 → blanks_length text ≡ 0
+no_blanks_at text e = blanks_by text 0 e
 
 pub name_found : (w rest : List ℕ) → IsWord w → IsUtf8 rest → closes rest ≡ true → found (w ++ rest) ≡ Lexed Name (length w)
 name_found w rest h u c =
@@ -71,21 +75,25 @@ name_found w rest h u c =
 
 -- patterns
 
-marks_head : (y : List ℕ) → underscores_length y ≡ 0 → underscores_length (95 ∷ y) ≡ 1
-marks_head y e = ap (λ (n : ℕ). 1 + n) e
-
-blanks_by : (text : List ℕ) (u : ℕ) → underscores_length text ≡ u → blanks_length text ≡ (let n = min 3 u in cond (n == 0) 0 (n + tail_length n (drop n text)))
-blanks_by text u e = ap (λ (u : ℕ). let n = min 3 u in cond (n == 0) 0 (n + tail_length n (drop n text))) e
+-- where no mark comes first, none is counted in a shorter part either
+no_mark_within : (y : List ℕ) (n : ℕ) → marks_length y ≡ 0 → prefix_len (λ b. b == 95) (take n y) ≡ 0
+no_mark_within [] zero e = refl
+no_mark_within [] (suc n) e = refl
+no_mark_within (b ∷ bs) zero e = refl
+no_mark_within (b ∷ bs) (suc n) e = elim (cases_Bool (b == 95)) [
+  | inl mark ↦ absurd (omega (arith, e, cond-true (b == 95) (1 + prefix_len (λ c. c == 95) (take 2 bs)) 0 mark))
+  | inr other ↦ cond-false (b == 95) _ _ other
+]
 
 abbrev pub count_of : Marks → ℕ
 count_of One = 1
 count_of Two = 2
 count_of Three = 3
 
-pub blanks_are : (k : Marks) (y : List ℕ) (m : ℕ) → underscores_length y ≡ 0 → tail_length (count_of k) y ≡ m → blanks_length (marks_text k ++ y) ≡ length (marks_text k) + m
-blanks_are One y m e t = blanks_by (95 ∷ y) 1 (ap (λ (n : ℕ). 1 + n) e) ∙ ap (λ (n : ℕ). 1 + n) t
-blanks_are Two y m e t = blanks_by (95 ∷ 95 ∷ y) 2 (ap (λ (n : ℕ). 1 + (1 + n)) e) ∙ ap (λ (n : ℕ). 2 + n) t
-blanks_are Three y m e t = blanks_by (95 ∷ 95 ∷ 95 ∷ y) 3 (ap (λ (n : ℕ). 1 + (1 + (1 + n))) e) ∙ ap (λ (n : ℕ). 3 + n) t
+pub blanks_are : (k : Marks) (y : List ℕ) (m : ℕ) → marks_length y ≡ 0 → tail_length (count_of k) y ≡ m → blanks_length (marks_text k ++ y) ≡ length (marks_text k) + m
+blanks_are One y m e t = blanks_by (95 ∷ y) 1 (ap (λ (n : ℕ). 1 + n) (no_mark_within y 2 e)) ∙ ap (λ (n : ℕ). 1 + n) t
+blanks_are Two y m e t = blanks_by (95 ∷ 95 ∷ y) 2 (ap (λ (n : ℕ). 1 + (1 + n)) (no_mark_within y 1 e)) ∙ ap (λ (n : ℕ). 2 + n) t
+blanks_are Three y m e t = blanks_by (95 ∷ 95 ∷ 95 ∷ y) 3 (ap (λ (n : ℕ). 1 + (1 + (1 + n))) (no_mark_within y 0 e)) ∙ ap (λ (n : ℕ). 3 + n) t
 
 abbrev pub MaybeWord : List ℕ → Type 0
 MaybeWord [] = Unit {0}
@@ -141,10 +149,10 @@ dot_tail rest u a =
     ap (λ (n : ℕ). cond (ltb 0 n) n (cond ((1 == 1) && is_lone_dot (46 ∷ rest)) 1 0)) (no_name_byte 46 rest (utf8_more 46 rest (omega arith) u) (omega arith) refl)
     ∙ ap lone (dot_lone rest a)
 
-word_no_marks : (h rest : List ℕ) → IsWord h → underscores_length (h ++ rest) ≡ 0
+word_no_marks : (h rest : List ℕ) → IsWord h → marks_length (h ++ rest) ≡ 0
 word_no_marks h rest w = go (h ++ rest) (word_avoids h rest w)
   where
-    go : (t : List ℕ) → avoids t odd ≡ true → underscores_length t ≡ 0
+    go : (t : List ℕ) → avoids t odd ≡ true → marks_length t ≡ 0
     go [] a = refl
     go (b ∷ bs) a = cond-false (b == 95) _ _ (first_is_not b 95 bs (avoids_less (b ∷ bs) (95 ∷ []) odd refl a))
 
@@ -225,9 +233,9 @@ all_digit_push : (ds : List ℕ) (b : ℕ) → AllDigit ds → is_digit b ≡ tr
 all_digit_push [] b h d = (d, tt)
 all_digit_push (c ∷ ds) b h d = (h.0, all_digit_push ds b h.1 d)
 
-value_push : (n : ℕ) (bs : List ℕ) (b : ℕ) → decimal_value_after n (bs ++ (b ∷ [])) ≡ decimal_value_after n bs * 10 + (b - 48)
+value_push : (n : ℕ) (bs : List ℕ) (b : ℕ) → value_after 10 n (bs ++ (b ∷ [])) ≡ value_after 10 n bs * 10 + digit_value b
 value_push n [] b = refl
-value_push n (c ∷ cs) b = value_push (n * 10 + (c - 48)) cs b
+value_push n (c ∷ cs) b = value_push (n * 10 + digit_value c) cs b
 
 -- digits that write n
 pub record Writes (n : ℕ) (ds : List ℕ) : Type 0 where
@@ -238,17 +246,20 @@ pub record Writes (n : ℕ) (ds : List ℕ) : Type 0 where
 digit_char : (d : ℕ) → d < 10 → is_digit (48 + d) ≡ true
 digit_char d l = and_from (leb 48 (48 + d)) (leb (48 + d) 57) (le-leb 48 (48 + d) (omega arith)) (le-leb (48 + d) 57 (omega arith))
 
+digit_is : (d : ℕ) → d < 10 → digit_value (48 + d) ≡ d
+digit_is d l = cond-true (is_digit (48 + d)) _ _ (digit_char d l) ∙ omega arith
+
 pub writes_decimal : (n : ℕ) → n < 10 ^ 64 → Writes n (decimal n)
 writes_decimal = decimal_by_steps_wide Writes one more
   where
     one : (n : ℕ) → n < 10 → Writes n ((48 + n) ∷ [])
-    one n l = record { some = omega arith; digits = (digit_char n l, tt); value = omega arith }
+    one n l = record { some = omega arith; digits = (digit_char n l, tt); value = omega (arith, digit_is n l) }
 
     more : (n : ℕ) (ds : List ℕ) → 10 ≤ n → Writes (n / 10) ds → Writes n (ds ++ ((48 + n % 10) ∷ []))
     more n ds l h = record {
       some = omega (arith, length-append ds ((48 + n % 10) ∷ []));
       digits = all_digit_push ds (48 + n % 10) h.digits (digit_char (n % 10) (omega arith));
-      value = omega (arith, value_push 0 ds (48 + n % 10), h.value);
+      value = omega (arith, value_push 0 ds (48 + n % 10), h.value, digit_is (n % 10) (omega arith));
     }
 
 in_range : (n : ℕ) → n < 2 ^ 127 → n < 10 ^ 64
@@ -280,15 +291,67 @@ not_long ds rest n w l e =
     ap (λ (i : ℕ). ltb greatest (decimal_value (take i (ds ++ rest)))) (digits_run ds rest w.digits e)
     ∙ ap (λ x. ltb greatest (decimal_value x)) (take_front ds rest) ∙ ap (λ (i : ℕ). ltb greatest i) w.value ∙ le-ltb greatest n (omega arith)
 
+-- digits that no `^^` follows are a literal in base ten
+
+no_base : (ds rest : List ℕ) → AllDigit ds → digits_length rest ≡ 0 → begins_with rest (codes "^^") ≡ false → is_based (ds ++ rest) ≡ false
+no_base ds rest h e b = ap (λ (i : ℕ). begins_with (drop i (ds ++ rest)) (codes "^^")) (digits_run ds rest h e) ∙ ap (λ l. begins_with l (codes "^^")) (drop_front ds rest) ∙ b
+
+alone_no_base : (ds : List ℕ) → AllDigit ds → is_based ds ≡ false
+alone_no_base ds h = subst (λ l. is_based l ≡ false) (append-nil ds) (no_base ds [] h refl refl)
+
+in_ten : (ds : List ℕ) → AllDigit ds → base_of ds ≡ 10
+in_ten ds h = cond-false (is_based ds) _ _ (alone_no_base ds h)
+
+at_once : (ds : List ℕ) → AllDigit ds → digits_start ds ≡ 0
+at_once ds h = cond-false (is_based ds) _ _ (alone_no_base ds h)
+
+pub literal_is : (n : ℕ) (ds : List ℕ) → Writes n ds → literal_value ds ≡ n
+literal_is n ds w = ap (λ (b : ℕ). value_in b (digits_of ds)) (in_ten ds w.digits) ∙ ap (λ (s : ℕ). value_in 10 (drop s ds)) (at_once ds w.digits) ∙ w.value
+
+digit_fits : (b : ℕ) → is_digit b ≡ true → ltb (digit_value b) 10 ≡ true
+digit_fits b d =
+    let value : digit_value b ≡ b - 48 = cond-true (is_digit b) _ _ d in
+    lt-ltb (digit_value b) 10 (omega (arith, value, leb-true b 57 (and_parts (leb 48 b) (leb b 57) d).1))
+
+all_fit : (ds : List ℕ) → AllDigit ds → fitting_length 10 ds ≡ length ds
+all_fit [] h = refl
+all_fit (b ∷ bs) h = cond-true (ltb (digit_value b) 10) (1 + fitting_length 10 bs) 0 (digit_fits b h.0) ∙ omega (arith, all_fit bs h.1)
+
+no_bad : (ds : List ℕ) → 0 < length ds → AllDigit ds → bad_digit 10 ds ≡ None
+no_bad ds some h =
+    let e = all_fit ds h in
+    cond-true (ltb 0 (fitting_length 10 ds) && (fitting_length 10 ds == length ds)) _ _ (and_from (ltb 0 (fitting_length 10 ds)) (fitting_length 10 ds == length ds) (lt-ltb 0 (fitting_length 10 ds) (omega (arith, e, some))) (equal_self (fitting_length 10 ds) (length ds) e))
+
+no_fault : (n : ℕ) (ds : List ℕ) → Writes n ds → digit_fault ds ≡ None
+no_fault n ds w =
+    ap (λ (s : ℕ). beyond s (bad_digit (base_of ds) (drop s ds))) (at_once ds w.digits)
+    ∙ ap (λ (b : ℕ). beyond 0 (bad_digit b ds)) (in_ten ds w.digits) ∙ ap (beyond 0) (no_bad ds w.some w.digits)
+
+number_run : (ds rest : List ℕ) → 0 < length ds → AllDigit ds → digits_length rest ≡ 0 → begins_with rest (codes "^^") ≡ false → number_length (ds ++ rest) ≡ length ds
+number_run ds rest some h e b =
+    let text : List ℕ = ds ++ rest in
+    let run = digits_run ds rest h e in
+    cond-false (digits_length text == 0) _ _ (ne_eqb (digits_length text) 0 (λ z. omega (arith, z, run, some)))
+    ∙ cond-false (is_based text) (digits_length text + 2 + letters_length (drop (digits_length text + 2) text)) _ (no_base ds rest h e b) ∙ run
+
+-- of the literal alone
+literal_lexed : (n : ℕ) (ds text : List ℕ) → Writes n ds → n < 2 ^ 127 → take (length ds) text ≡ ds → is_lone_dot (drop (length ds) text) ≡ false → lexed Number (length ds) text ≡ Lexed Number (length ds)
+literal_lexed n ds text w l front dot =
+    let k : ℕ = length ds in
+    ap (λ x. cond (is_base (base_of x)) (in_base (digit_fault x) k text) (Fault Base 0)) front
+    ∙ ap (λ (b : ℕ). cond (is_base b) (in_base (digit_fault ds) k text) (Fault Base 0)) (in_ten ds w.digits)
+    ∙ ap (λ o. in_base o k text) (no_fault n ds w)
+    ∙ cond-false (is_lone_dot (drop k text)) _ _ dot
+    ∙ cond-false (ltb greatest (literal_value (take k text))) _ _ (ap (λ x. ltb greatest (literal_value x)) front ∙ ap (λ (i : ℕ). ltb greatest i) (literal_is n ds w) ∙ le-ltb greatest n (omega arith))
+
 pub number_cut : (ds rest : List ℕ) (n : ℕ) → Writes n ds → n < 2 ^ 127 → IsUtf8 rest → closes rest ≡ true → found (ds ++ rest) ≡ Lexed Number (length ds)
 number_cut ds rest n w l u c =
     let (b, k, f) = no_space_digits ds rest w.some w.digits in
     let e = closes_digits rest c in
     unspaced (ds ++ rest) 0 (sym b) (omega arith) ∙ cond-false (is_comment (ds ++ rest)) _ _ k
     ∙ sym (number_found (ds ++ rest) (IsUtf8-append ds rest (digits_ascii ds w.digits) u) (omega (arith, length-append ds rest, w.some)) (first_digit ds rest w.some w.digits) f)
-    ∙ ap (λ (i : ℕ). lexed Number i (ds ++ rest)) (digits_run ds rest w.digits e)
-    ∙ cond-false (is_lone_dot (drop (length ds) (ds ++ rest))) _ _ (ap is_lone_dot (drop_front ds rest) ∙ closes_dot rest c)
-    ∙ cond-false (is_long (ds ++ rest)) _ _ (not_long ds rest n w l e)
+    ∙ ap (λ (i : ℕ). lexed Number i (ds ++ rest)) (number_run ds rest w.some w.digits e (closes_base rest c))
+    ∙ literal_lexed n ds (ds ++ rest) w l (take_front ds rest) (ap is_lone_dot (drop_front ds rest) ∙ closes_dot rest c)
 
 -- slots
 
