@@ -103,9 +103,6 @@ AllUnmarked : List ℕ → Type 0
 AllUnmarked [] = Unit {0}
 AllUnmarked (b ∷ bs) = ((b == 95) ≡ false) × AllUnmarked bs
 
-unmarked : ℕ → Bool
-unmarked b = not (b == 95)
-
 unmarked_run : (e r : List ℕ) → AllUnmarked e → prefix_len (λ b. not (is_mark b)) (e ++ r) ≡ length e + prefix_len (λ b. not (is_mark b)) r
 unfolding AllUnmarked
 unmarked_run [] r h = omega arith

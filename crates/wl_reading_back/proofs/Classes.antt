@@ -234,9 +234,6 @@ closes_no_name (b ∷ bs) u h =
 pub digit_small : (b : ℕ) → is_digit b ≡ true → b < 128
 digit_small b h = omega (arith, leb-true b 57 (and_parts (leb 48 b) (leb b 57) h).1)
 
-pub no_digit_first : (b : ℕ) (bs : List ℕ) → avoids (b ∷ bs) odd ≡ true → is_digit b ≡ false
-no_digit_first b bs h = covered b odd is_digit (digit_small b) refl h
-
 blank_small : (b : ℕ) → is_blank b ≡ true → b < 128
 blank_small b h = ltb-true b 128 (in_list b (32 ∷ 9 ∷ 10 ∷ 12 ∷ 13 ∷ []) (λ k. nat_lt k 128) refl (listed (b == 32) (b == 9) (b == 10) (b == 12) (b == 13) h))
   where

@@ -1,7 +1,6 @@
 -- The tokens of a text, one cut off after another.
-use Rattle.std.proofs.Common.{ℕ, zero, suc, ◌+◌, ◌-◌, ◌<◌, ◌≡◌, Bool, true, false, not, ◌&&◌, ◌==◌, cond, List, [], ◌∷◌, ◌++◌, length, take, drop, get_or, refl, sym, ap, ◌∙◌, arith, codes, ltb}
-use Rattle.std.specs.Prelude.{None, map, nat_lt}
-use Rattle.std.specs.List.{list_any}
+use Rattle.std.proofs.Common.{ℕ, zero, suc, ◌+◌, ◌-◌, ◌<◌, ◌≡◌, true, false, ◌==◌, cond, List, [], ◌∷◌, ◌++◌, length, take, drop, get_or, refl, sym, ap, ◌∙◌, arith, ltb}
+use Rattle.std.specs.Prelude.{None, map}
 use Rattle.std.specs.Str.{IsUtf8}
 use Rattle.std.proofs.lemmas.List.{take-append-le, drop-append-le, take_all, drop_all}
 use Rattle.std.proofs.lemmas.Bool.{cond-true, cond-false, true≢false, lt-ltb}
@@ -89,9 +88,6 @@ scans_space rest ks e h = record {
 }
 
 -- what is asked of the first byte of a sign
-abbrev pub is_sign_byte : ℕ → Bool
-is_sign_byte c = nat_lt c 128 && (not (is_digit c) && not (list_any (λ k. c == k) (codes "#%\"_ \t\n\r")) && not (c == 12))
-
 pub record BeginsSign (c : ℕ) : Type 0 where
   pub ascii : c < 128
   pub digit : is_digit c ≡ false

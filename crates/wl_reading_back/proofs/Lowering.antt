@@ -185,8 +185,3 @@ tame (before o s) w = tt
 tame (after s o) w = postfix_tame (written s) o (postfix_level o)
 tame (chain s ls) w = links_tame s ls w.0 w.1 w.2 (tame s w.0)
 tame (ended s ls) w = tt
-
--- what a chain of operators, the last one o, stands for
-pub lower_chain : (s : Shown) (ls : Links) (o : Infix) (r : Shown) → Well (chain s (behind ls o r)) → is_chain (infix_level o) ≡ true → lower (written (chain s (behind ls o r))) ≡ named (table.infix_name (as_infix o)) (lower (written s) ∷ values_of (behind ls o r))
-unfolding Well
-lower_chain s ls o r w c = chain_value (linked (written s) (behind ls o r)) o (lower (written s) ∷ values_of (behind ls o r)) (chain_of (infix_level o) s ls o r (tame s w.0) w.1 c w.2)

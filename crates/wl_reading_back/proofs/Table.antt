@@ -145,9 +145,6 @@ AllGood (full.more t ts) = Good t (showing t) × AllGood ts
 abbrev values : full.Trees → List full.Tree
 values ts = to_list (all_spelled ts)
 
-plus_value : (s : Shown) → value_of Plus s ≡ lower (written s)
-plus_value s = refl
-
 pub added_good : (t : full.Tree) (s : Shown) → Well s → lower (written s) ≡ spelled t → (is_symbol t ≡ false → NotNamed (form (written s))) → (is_number t ≡ false → level s < 12 → reach (written s) ≡ None) → Good t (added s)
 added_good t s w v n r = record {
   well = w;
@@ -514,9 +511,6 @@ record Reached (t : Tree) (e : full.Tree) : Type 0 where
   reached : reach t ≡ Some steps
   turned : negated_at steps (lower t) ≡ e
 
-digits_reached : (n : ℕ) → n < 2 ^ 127 → Reached (digits_of n) (whole_number (neg_ℤ (pos n)))
-digits_reached n l = record { steps = 0; reached = refl; turned = ap (λ e. negated_at 0 e) (digits_back n l) }
-
 number_reached_by : (m q : ℕ) (b : Bool) → suc m < 2 ^ 127 → q < 2 ^ 127 → (q == 1) ≡ b
     → Reached (cond b (signed (pos (suc m))) (tree.between (signed (pos (suc m))) read_infix.Divide (digits_of q))) (cond b (full.num (record { num = negsuc m; den = q })) (named (codes "Times") (whole_number (negsuc m) ∷ named (codes "Power") (whole_number (pos q) ∷ whole_number (negsuc 0) ∷ []) ∷ [])))
 unfolding table.infix_level
@@ -721,9 +715,6 @@ good_but_last : (t : full.Tree) (ts : full.Trees) → Good t (showing t) → All
 unfolding but_last AllGood
 good_but_last t full.none g gs = tt
 good_but_last t (full.more u us) g gs = (g, good_but_last u us gs.0 gs.1)
-
-null : full.Tree
-null = full.symbol (codes "Null")
 
 values_but_last : (t : full.Tree) (ts : full.Trees) → ends_in_null (full.more t ts) ≡ true → values (but_last t ts) ++ (full.symbol (codes "Null") ∷ []) ≡ spelled t ∷ values ts
 unfolding but_last

@@ -140,9 +140,6 @@ each_takes_three : (p : ℕ) (ns : List ℕ) → p ≤ 3 → UpTo p ns → Each 
 each_takes_three p [] l h = tt
 each_takes_three p (n ∷ ns) l h = (takes_three n p h.0 l, each_takes_three p ns l h.1)
 
-le_self : (n : ℕ) → nat_le n n ≡ true
-le_self n = grind (arith, nat_tests)
-
 -- numbers
 
 abbrev signed_level : ℤ → ℕ
@@ -269,9 +266,6 @@ asks : (o : Infix) (s : Shown) (ls : Links) (r : Shown) → OnNames o s ls r →
 unfolding tree.is_name tree.is_name_or_text
 asks Message s ls r (e, (x, f), (y, g)) = rw (e, f, g) (refl, refl)
 asks _ s ls r h = tt
-
-left_of : (p q : ℕ) (l : Tree) → p < q → UpTo p (right_edge l) → ends_last l ≡ false → TakesLeft q l
-left_of p q l h u e = (each_takes p q (right_edge l) h u, e)
 
 -- the left side of an operator of level q
 links_left : (q : ℕ) (s : Shown) (ls : Links) (o : Infix) → UpTo (level s) (right_edge (written s)) → ends_last (written s) ≡ false → level s < q → q ≤ 30 → WellLinks q s ls → GoesOnFrom q ls o → TakesLeft q (linked (written s) ls)
