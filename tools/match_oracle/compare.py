@@ -1,8 +1,8 @@
 """Compares the leaves that wl_match's definition lists with those of an independent writing, on random patterns.
 
-    python3 tools/match_oracle/compare.py ORACLE [COUNT [SEED]]
+    python3 tools/match_oracle/compare.py [COUNT [SEED [ORACLE]]]
 
-ORACLE is the folder of patterns.py, tree.py and syntax.py. Each pair of a pattern and a subject becomes a row that holds by computing
+ORACLE is the folder of patterns.py and tree.py; tools/oracle, if none is given. Each pair of a pattern and a subject becomes a row that holds by computing
 with the definition: `Trials (pattern flags P) S` is the oracle's list of leaves, each with its bindings and its tests. The rows
 stand in files of their own in a copy of the crates, which `rt check` reads; nothing here is changed. Patterns are of all forms,
 heads have all flags. Pairs with more than 60 leaves are passed over, and counted.
@@ -164,11 +164,11 @@ def listed(tree, ts):
 
 
 def main():
-    if len(sys.argv) < 2 or not (pathlib.Path(sys.argv[1]) / "patterns.py").exists():
-        sys.exit("match_oracle: skipped, since the folder of patterns.py isn't given")
-    patterns, tree = load(pathlib.Path(sys.argv[1]).resolve())
-    count = int(sys.argv[2]) if len(sys.argv) > 2 else 1000
-    draw = Draw(tree, int(sys.argv[3]) if len(sys.argv) > 3 else 1)
+    count = int(sys.argv[1]) if len(sys.argv) > 1 else 1000
+    seed = int(sys.argv[2]) if len(sys.argv) > 2 else 1
+    oracle = pathlib.Path(sys.argv[3]).resolve() if len(sys.argv) > 3 else ROOT / "tools" / "oracle"
+    patterns, tree = load(oracle)
+    draw = Draw(tree, seed)
     flags = {name: frozenset(held) for name, held in FLAGS.items()}
     rows, passed, kinds = [], 0, collections.Counter()
     while len(rows) < count:
