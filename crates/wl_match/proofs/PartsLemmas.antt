@@ -13,9 +13,11 @@ use Rattle.wl_match.specs.Heads.{head_symbol, heads, heads_in, heads_above}
 use Rattle.wl_expr.specs.Tree.{Tree, num, text, symbol, node}
 use Rattle.wl_expr.specs.Words.{is_node}
 use Rattle.wl_match.specs.declared.part.Part.TheVariants.{Exactly}
-use Rattle.wl_match.specs.Pattern.{Pat, Pats, exactly, end, also, read_node}
+use Rattle.wl_match.specs.declared.part.Part.TheVariants as part
+use Rattle.std.specs.Prelude.{string_bytes, option_map, Some, None}
+use Rattle.wl_match.specs.Pattern.{Pat, Pats, exactly, named, tested, applies, holds, hold, optional, alternatives, repeated, except, nodes, end, also, read_node}
 use Rattle.wl_match.specs.Placed.{flags_at, placed, placed_in}
-use Rattle.wl_match.specs.Parts.{nothing, at, table, pat, pat_of, pats_of, kept, kept_by, Builds, BuildsAll, Puts}
+use Rattle.wl_match.specs.Parts.{nothing, at, count_of, table, pat, pat_of, pats_of, inside, IsBehind, kept, kept_by, Builds, BuildsAll, Puts}
 use Rattle.wl_match.proofs.HeadsLemmas.{count_more, length_heads}
 
 table_put : (ps : List Pat) (ss : List Part) (s : Part) → table ps (ss ++ s ∷ []) ≡ table ps ss ++ pat_of (at (table ps ss)) s ∷ []
@@ -94,6 +96,13 @@ all_taken ms (x ∷ ts) (suc i) t l e h =
     let r = all_taken ms ts i t (omega arith) e (rw add-one (All-tail (IsFrom ms) x (take (suc i) ts) whole)) in
     (All-cons (IsFrom ms) x (take i ts) (All-head (IsFrom ms) x (take (suc i) ts) whole) r.0, r.1)
 
+behind_put : (n : ℕ) (ss : List Part) (s : Part) → IsBehind n ss → All (λ i. i < n + length ss) (inside s) → IsBehind n (ss ++ s ∷ [])
+behind_put n [] s h a = (all_up (n + 0) n (inside s) (omega arith) a, tt)
+behind_put n (r ∷ ss) s h a = (h.0, behind_put (n + 1) ss s h.1 (all_up (n + suc (length ss)) (n + 1 + length ss) (inside s) (omega arith) a))
+
+behind_with : (old new : List Part) (s : Part) (i : ℕ) → Puts s old i new → IsBehind 0 old → All (λ i. i < length old) (inside s) → IsBehind 0 new
+behind_with old new s i p h a = subst (IsBehind 0) (sym p.is) (behind_put 0 old s h (all_up (length old) (0 + length old) (inside s) (omega arith) a))
+
 with_more : (fs : List Flags) (k : ℕ) (ts : List Stamped) (i : ℕ) (t : Stamped) (old mid new : List Part) (is : List ℕ) (j n m : ℕ) → i < length ts → t ≡ get_or ts i t → BuildsAll fs k (take i ts) old is n mid → Builds fs n t mid j m new → BuildsAll fs k (take (i + 1) ts) old (is ++ j ∷ []) m new
 with_more fs k ts i t old mid new is j n m l e a b = record {
   below = All-append (λ i. i < length new) is (j ∷ []) (all_up (length mid) (length new) is b.grows a.below) (All-cons (λ i. i < length new) j [] (let q = b.last in omega arith) (All-nil (λ i. i < length new)));
@@ -106,6 +115,7 @@ with_more fs k ts i t old mid new is j n m l e a b = record {
       ∙ sym (placed_in_more fs k ts i t l e);
   next_is = let g = a.next_is in let h = b.next_is in omega (arith, count_more ts i t l e);
   passed = λ ms o p. let q = all_taken ms ts i t l e p in b.passed ms (a.passed ms o q.0) q.1;
+  behind = λ h. b.behind (a.behind h);
 }
 
 -- one tree more
@@ -121,6 +131,7 @@ builds_leaf fs k t u old new i n e p = record {
   is = put_is old (Exactly u) i new p ∙ ap (λ z. exactly (plain z)) e ∙ leaf_placed (plain t) n;
   next_is = let a = ap length (leaf_heads (plain t) n) in omega arith;
   passed = λ ms o f. subst (All (IsFrom ms)) (sym (ap kept p.is ∙ kept_put old (Exactly u))) (All-append (IsFrom ms) (kept old) (u ∷ []) o (All-cons (IsFrom ms) u [] (subst (IsFrom ms) (sym e) f) (All-nil (IsFrom ms))));
+  behind = λ h. behind_with old new (Exactly u) i p h (All-nil (λ j. j < length old));
 }
   where
     leaf_placed : (t : Tree) → is_node t ≡ false → exactly t ≡ placed fs k t
@@ -141,8 +152,9 @@ pub builds_node : (fs : List Flags) (k : ℕ) (t h : Stamped) (ts : List Stamped
     → own ≡ flags_at fs k → a ≡ k + length (head_symbol (plain h)) → Builds fs a h old i n mid → BuildsAll fs n ts mid is m next
     → ((f : ℕ → Pat) → pat_of f s ≡ read_node (λ _. own) (plain h) (plains (from_list ts)) (f i) (pats_of f is))
     → ((ms : List Stamped) → IsFrom ms h → All (IsFrom ms) ts → All (IsFrom ms) (kept_by s))
+    → ((v : ℕ) → i < v → All (λ x. x < v) is → All (λ x. x < v) (inside s))
     → Puts s next j new → Builds fs k t old j m new
-builds_node fs k t h ts own s old mid next new is i j a n m e from o w b c q r p = record {
+builds_node fs k t h ts own s old mid next new is i j a n m e from o w b c q r g p = record {
   last = let v = p.at_end in omega (arith, put_length next s new p.is);
   grows = let v = b.grows in let u = c.grows in omega (arith, put_length next s new p.is);
   keeps = λ v l. ap (λ ss. pat ss v) p.is ∙ pat_kept next s v (let x = b.grows in let y = c.grows in omega arith) ∙ c.keeps v (let x = b.grows in omega arith) ∙ b.keeps v l;
@@ -153,8 +165,9 @@ builds_node fs k t h ts own s old mid next new is i j a n m e from o w b c q r p
       ∙ ap (placed fs k) e;
   next_is = let x = c.next_is in omega (arith, n_is, length_heads (plain h) (plains (from_list ts)), ap (λ z. length (heads z)) e);
   passed = λ ms x f.
-      let g = from ms f in
-      subst (All (IsFrom ms)) (sym (ap kept p.is ∙ kept_put next s)) (All-append (IsFrom ms) (kept next) (kept_by s) (c.passed ms (b.passed ms x g.0) g.1) (r ms g.0 g.1));
+      let z = from ms f in
+      subst (All (IsFrom ms)) (sym (ap kept p.is ∙ kept_put next s)) (All-append (IsFrom ms) (kept next) (kept_by s) (c.passed ms (b.passed ms x z.0) z.1) (r ms z.0 z.1));
+  behind = λ h. behind_with next new s j p (c.behind (b.behind h)) (g (length next) (let x = b.last in let y = c.grows in omega arith) c.below);
 }
   where
     n_is : n ≡ k + length (heads_above (plain h))
@@ -166,3 +179,45 @@ root_is fs k t old i n new b = ap (pat new) (let q = b.last in let e : length ne
 
 pub kept_from_none : (ms : List Stamped) (ss : List Part) → ss ≡ [] → All (IsFrom ms) (kept ss)
 kept_from_none ms ss e = subst (λ z. All (IsFrom ms) (kept z)) (sym e) (kept_nothing ms)
+
+-- a part is read by the patterns at the places that it names alone
+same_inside : (f g : ℕ → Pat) (n : ℕ) (s : Part) → All (λ i. i < n) (inside s) → ((j : ℕ) → j < n → f j ≡ g j) → pat_of f s ≡ pat_of g s
+same_inside f g n (part.Exactly t) h e = refl
+same_inside f g n (part.Blank c t) h e = refl
+same_inside f g n (part.Named x q) h e = ap (named (string_bytes x)) (e q (All-head (λ i. i < n) q [] h))
+same_inside f g n (part.Applies t q) h e = ap (tested (applies (plain t))) (e q (All-head (λ i. i < n) q [] h))
+same_inside f g n (part.Holds t q) h e = ap (tested (holds (plain t))) (e q (All-head (λ i. i < n) q [] h))
+same_inside f g n (part.Hold q) h e = ap hold (e q (All-head (λ i. i < n) q [] h))
+same_inside f g n (part.Optional d q) h e = ap (optional (option_map plain d)) (e q (All-head (λ i. i < n) q [] h))
+same_inside f g n (part.Alternatives qs) h e = ap alternatives (pats_same f g n qs.items h e)
+same_inside f g n (part.Repeated c q) h e = ap (repeated (count_of c)) (e q (All-head (λ i. i < n) q [] h))
+same_inside f g n (part.Except t None) h e = refl
+same_inside f g n (part.Except t (Some q)) h e = ap (except (plain t)) (e q (All-head (λ i. i < n) q [] h))
+same_inside f g n (part.Nodes v t q qs) h e =
+    λ m. nodes v (plain t) (e q (All-head (λ i. i < n) q qs.items h) m) (pats_same f g n qs.items (All-tail (λ i. i < n) q qs.items h) e m)
+
+table_keeps : (ps : List Pat) (ss : List Part) (i : ℕ) → i < length ps → at (table ps ss) i ≡ at ps i
+table_keeps ps [] i l = refl
+table_keeps ps (s ∷ ss) i l =
+    table_keeps (ps ++ pat_of (at ps) s ∷ []) ss i (omega (arith, length-append ps (pat_of (at ps) s ∷ [])))
+    ∙ get_or-append ps (pat_of (at ps) s ∷ []) nothing i l
+
+table_is : (ps : List Pat) (ss : List Part) (i n : ℕ) (d : Part) → n ≡ length ps → IsBehind n ss → i < length ss → at (table ps ss) (n + i) ≡ pat_of (at (table ps ss)) (get_or ss i d)
+table_is ps [] i n d e h l = absurd (omega arith)
+table_is ps (s ∷ ss) zero n d e h l =
+    let qs = ps ++ pat_of (at ps) s ∷ [] in
+    ap (at (table qs ss)) (let k : n + 0 ≡ length ps = omega arith in k)
+    ∙ table_keeps qs ss (length ps) (omega (arith, length-append ps (pat_of (at ps) s ∷ [])))
+    ∙ get_or-append_seam ps (pat_of (at ps) s) [] nothing
+    ∙ same_inside (at ps) (at (table qs ss)) n s h.0 (λ j w.
+        let v : j < length ps = omega arith in
+        sym (table_keeps qs ss j (omega (arith, length-append ps (pat_of (at ps) s ∷ []))) ∙ get_or-append ps (pat_of (at ps) s ∷ []) nothing j v))
+table_is ps (s ∷ ss) (suc i) n d e h l =
+    let qs = ps ++ pat_of (at ps) s ∷ [] in
+    ap (at (table qs ss)) (let k : n + suc i ≡ n + 1 + i = omega arith in k)
+    ∙ table_is qs ss i (n + 1) d (omega (arith, length-append ps (pat_of (at ps) s ∷ []))) h.1 (omega arith)
+
+-- the parts that a part names stand before it, so that it is read by the patterns of all
+pub pat_is : (ss : List Part) (i : ℕ) (d : Part) → IsBehind 0 ss → i < length ss → pat ss i ≡ pat_of (pat ss) (get_or ss i d)
+unfolding pat
+pat_is ss i d h l = ap (at (table [] ss)) (let k : i ≡ 0 + i = omega arith in k) ∙ table_is [] ss i 0 d refl h l

@@ -1,5 +1,5 @@
 -- The pattern that a list of parts is. Each part names parts inside it by their places in the list, and stands behind them.
-use Rattle.std.specs.Prelude.{◌≡◌, ℕ, ◌+◌, ◌<◌, ◌≤◌, List, [], ◌∷◌, ◌++◌, length, get_or, string_bytes, Option, Some, None, option_map}
+use Rattle.std.specs.Prelude.{◌≡◌, ℕ, ◌+◌, ◌<◌, ◌≤◌, List, [], ◌∷◌, ◌++◌, length, get_or, string_bytes, Option, Some, None, option_map, ⊤}
 use Rattle.std.specs.List.{All}
 use Rattle.wl_expr.specs.Passed.{IsFrom}
 use Rattle.wl_expr.specs.Stamped.{Stamped, plain, plains, from_list}
@@ -78,6 +78,30 @@ unfoldable pub kept : List Part → List Stamped
 kept [] = []
 kept (s ∷ ss) = kept_by s ++ kept ss
 
+-- the places that a part names
+abbrev pub inside : Part → List ℕ
+inside (part.Exactly t) = []
+inside (part.Blank c h) = []
+inside (part.Named x q) = q ∷ []
+inside (part.Applies t q) = q ∷ []
+inside (part.Holds c q) = q ∷ []
+inside (part.Hold q) = q ∷ []
+inside (part.Optional d q) = q ∷ []
+inside (part.Alternatives qs) = qs.items
+inside (part.Repeated c q) = q ∷ []
+inside (part.Except t None) = []
+inside (part.Except t (Some q)) = q ∷ []
+inside (part.Nodes g h hp qs) = hp ∷ qs.items
+
+abbrev pub inside_some : Option Part → List ℕ
+inside_some None = []
+inside_some (Some s) = inside s
+
+-- each part stands behind those that it names, of which n stand before all
+abbrev pub IsBehind : ℕ → List Part → Type 0
+IsBehind n [] = ⊤
+IsBehind n (s ∷ ss) = All (λ i. i < n) (inside s) × IsBehind (n + 1) ss
+
 -- a part for a special form, or the pattern of an ordinary node where there is none
 abbrev pub pat_or : (ℕ → Pat) → Option Part → Pat → Pat
 pat_or f None p = p
@@ -95,6 +119,7 @@ pub record Builds (fs : List Flags) (k : ℕ) (t : Stamped) (old : List Part) (i
   pub is : pat new i ≡ placed fs k (plain t)
   pub next_is : next ≡ k + length (heads (plain t))
   pub passed : (ms : List Stamped) → All (IsFrom ms) (kept old) → IsFrom ms t → All (IsFrom ms) (kept new)
+  pub behind : IsBehind 0 old → IsBehind 0 new
 
 -- parts were added for each of these trees
 pub record BuildsAll (fs : List Flags) (k : ℕ) (ts : List Stamped) (old : List Part) (is : List ℕ) (next : ℕ) (new : List Part) : Type 0 where
@@ -104,6 +129,7 @@ pub record BuildsAll (fs : List Flags) (k : ℕ) (ts : List Stamped) (old : List
   pub are : pats_of (pat new) is ≡ placed_in fs k (plains (from_list ts))
   pub next_is : next ≡ k + length (heads_in (plains (from_list ts)))
   pub passed : (ms : List Stamped) → All (IsFrom ms) (kept old) → All (IsFrom ms) ts → All (IsFrom ms) (kept new)
+  pub behind : IsBehind 0 old → IsBehind 0 new
 
 -- a part was put behind the others
 pub record Puts (s : Part) (old : List Part) (i : ℕ) (new : List Part) : Type 0 where

@@ -29,13 +29,15 @@ pub struct Pattern {
 impl Model for Pattern {
     ghost use Rattle.std.specs.Prelude.{◌-◌, length};
     ghost use Rattle.wl_match.specs.Prepared.{Prepared, prepared_code};
-    ghost use Rattle.wl_match.specs.Parts.{kept, pat};
+    ghost use Rattle.wl_match.specs.Parts.{IsBehind, kept, pat};
 
     ghost Value = { Prepared };
 
     ghost coded = { prepared_code };
 
     ghost view = { λ q. record { pattern = pat q.parts.items (length q.parts.items - 1); kept = kept q.parts.items } };
+
+    ghost invariant = { λ q. IsBehind 0 q.parts.items };
 }
 
 impl Pattern {

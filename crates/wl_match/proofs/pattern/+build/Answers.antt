@@ -23,7 +23,7 @@ pub build-returns-in_ok-put-in-Some : goal.build-returns-in_ok-put-in-Some
 build-returns-in_ok-put-in-Some t c =
     builds_node c.args.flags.now c.args.at c.args.p.now c.in-Some.head.now c.in-Some.args.now _ _ _ _ _ _ _ _ _ _ _ _
     c.in-Some.ensures.is c.in-Some.ensures.passed c.own_flags-next.ensures.flags c.own_flags-next.ensures.next
-    c.in_ok-top-in-Some.ensures c.in_ok-below-in-Some.ensures c.in_ok-part-in-Some.ensures.is c.in_ok-part-in-Some.ensures.passed c.in_ok-put-in-Some.ensures
+    c.in_ok-top-in-Some.ensures c.in_ok-below-in-Some.ensures c.in_ok-part-in-Some.ensures.is c.in_ok-part-in-Some.ensures.passed c.in_ok-part-in-Some.ensures.inside c.in_ok-put-in-Some.ensures
 
 pub build-returns-in_ok-put-in-None : goal.build-returns-in_ok-put-in-None
 build-returns-in_ok-put-in-None t c =
