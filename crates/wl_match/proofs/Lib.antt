@@ -3,4 +3,5 @@ pub mod FormsLemmas
 pub mod HeadsLemmas
 pub mod PartsLemmas
 pub mod PlacedLemmas
+pub mod SizesLemmas
 mod Rows

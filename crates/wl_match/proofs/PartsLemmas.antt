@@ -20,11 +20,11 @@ use Rattle.wl_match.specs.Placed.{flags_at, placed, placed_in}
 use Rattle.wl_match.specs.Parts.{nothing, at, count_of, table, pat, pat_of, pats_of, inside, IsBehind, kept, kept_by, Builds, BuildsAll, Puts}
 use Rattle.wl_match.proofs.HeadsLemmas.{count_more, length_heads}
 
-table_put : (ps : List Pat) (ss : List Part) (s : Part) → table ps (ss ++ s ∷ []) ≡ table ps ss ++ pat_of (at (table ps ss)) s ∷ []
+pub table_put : (ps : List Pat) (ss : List Part) (s : Part) → table ps (ss ++ s ∷ []) ≡ table ps ss ++ pat_of (at (table ps ss)) s ∷ []
 table_put ps [] s = refl
 table_put ps (r ∷ ss) s = table_put (ps ++ pat_of (at ps) r ∷ []) ss s
 
-length_table : (ps : List Pat) (ss : List Part) → length (table ps ss) ≡ length ps + length ss
+pub length_table : (ps : List Pat) (ss : List Part) → length (table ps ss) ≡ length ps + length ss
 length_table ps [] = omega arith
 length_table ps (s ∷ ss) = omega (arith, length_table (ps ++ pat_of (at ps) s ∷ []) ss, length-append ps (pat_of (at ps) s ∷ []))
 
@@ -84,7 +84,7 @@ pats_same : (f g : ℕ → Pat) (n : ℕ) (is : List ℕ) → All (λ i. i < n) 
 pats_same f g n [] h e = refl
 pats_same f g n (i ∷ is) h e = λ m. also (e i (All-head (λ i. i < n) i is h) m) (pats_same f g n is (All-tail (λ i. i < n) i is h) e m)
 
-all_up : (n m : ℕ) (is : List ℕ) → n ≤ m → All (λ i. i < n) is → All (λ i. i < m) is
+pub all_up : (n m : ℕ) (is : List ℕ) → n ≤ m → All (λ i. i < n) is → All (λ i. i < m) is
 all_up n m [] l h = All-nil (λ i. i < m)
 all_up n m (i ∷ is) l h = let a : i < n = All-head (λ i. i < n) i is h in All-cons (λ i. i < m) i is (omega arith) (all_up n m is l (All-tail (λ i. i < n) i is h))
 
@@ -210,8 +210,8 @@ table_is ps (s ∷ ss) zero n d e h l =
     ∙ table_keeps qs ss (length ps) (omega (arith, length-append ps (pat_of (at ps) s ∷ [])))
     ∙ get_or-append_seam ps (pat_of (at ps) s) [] nothing
     ∙ same_inside (at ps) (at (table qs ss)) n s h.0 (λ j w.
-        let v : j < length ps = omega arith in
-        sym (table_keeps qs ss j (omega (arith, length-append ps (pat_of (at ps) s ∷ []))) ∙ get_or-append ps (pat_of (at ps) s ∷ []) nothing j v))
+    let v : j < length ps = omega arith in
+    sym (table_keeps qs ss j (omega (arith, length-append ps (pat_of (at ps) s ∷ []))) ∙ get_or-append ps (pat_of (at ps) s ∷ []) nothing j v))
 table_is ps (s ∷ ss) (suc i) n d e h l =
     let qs = ps ++ pat_of (at ps) s ∷ [] in
     ap (at (table qs ss)) (let k : n + suc i ≡ n + 1 + i = omega arith in k)

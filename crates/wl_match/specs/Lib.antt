@@ -9,3 +9,4 @@ pub mod Prepared
 -- What serves the proofs.
 pub mod Sought
 pub mod Parts
+pub mod Sizes

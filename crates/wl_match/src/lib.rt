@@ -8,6 +8,7 @@ mod items;
 pub mod laws;
 mod part;
 mod pattern;
+mod size;
 
 pub use flags::Flags;
 pub use heads::{head_at, head_count};

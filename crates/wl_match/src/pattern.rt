@@ -14,6 +14,7 @@ ghost use Rattle.wl_match.specs.declared.flags.Flags.{Flags};
 use crate::flags::Flags;
 use crate::forms::part_of;
 use crate::part::Part;
+use crate::size::{Size, all_sizes};
 use std::alloc::Global;
 use std::marker::Model;
 use wl_expr::{Expr, Look};
@@ -24,12 +25,14 @@ use wl_ports::Memory;
 #[derive(Drop)]
 pub struct Pattern {
     parts: Vec<Part>,
+    sizes: Vec<Size>,
 }
 
 impl Model for Pattern {
-    ghost use Rattle.std.specs.Prelude.{◌-◌, length};
+    ghost use Rattle.std.specs.Prelude.{◌≡◌, ◌-◌, length};
     ghost use Rattle.wl_match.specs.Prepared.{Prepared, prepared_code};
     ghost use Rattle.wl_match.specs.Parts.{IsBehind, kept, pat};
+    ghost use Rattle.wl_match.specs.Sizes.{sizes_of};
 
     ghost Value = { Prepared };
 
@@ -37,7 +40,7 @@ impl Model for Pattern {
 
     ghost view = { λ q. record { pattern = pat q.parts.items (length q.parts.items - 1); kept = kept q.parts.items } };
 
-    ghost invariant = { λ q. IsBehind 0 q.parts.items };
+    ghost invariant = { λ q. IsBehind 0 q.parts.items × (q.sizes.items ≡ sizes_of q.parts.items) };
 }
 
 impl Pattern {
@@ -51,7 +54,8 @@ impl Pattern {
     {
         let mut parts = Vec::new(alloc);
         build(alloc, p, flags, 0, &mut parts)?;
-        Ok(Pattern { parts })
+        let sizes = all_sizes(alloc, parts.as_slice())?;
+        Ok(Pattern { parts, sizes })
     }
 }
 
