@@ -1,11 +1,14 @@
 -- Stamps that are handed on, at the front and at the end of a list; and the trees of a list.
-use Rattle.std.proofs.Common.{◌≡◌, List, [], ◌∷◌, ◌++◌, Result, refl, ap, ◌∙◌, subst, sym}
+use Rattle.std.proofs.Common.{◌≡◌, List, [], ◌∷◌, ◌++◌, Result, Some, refl, ap, ◌∙◌, subst, sym}
 use Rattle.std.proofs.lemmas.List.Elements.{All-head, All-tail, All-push}
+use Rattle.wl_expr.proofs.Parts.{plains_from_list}
 use Rattle.wl_expr.specs.Passed.{IsFrom}
-use Rattle.wl_expr.specs.Stamped.{Stamped, plain}
-use Rattle.wl_expr.specs.Tree.{Tree}
+use Rattle.wl_expr.specs.Stamped.{Stamped, plain, plains, from_list}
+use Rattle.wl_expr.specs.Tree as tree
+use Rattle.wl_expr.specs.Tree.{Tree, to_list, to_list_from_list}
 use Rattle.wl_expr.specs.declared.fault.ExprFault.{ExprFault}
 use Rattle.wl_control.specs.Asks.{eval}
+use Rattle.wl_control.specs.Families.{elements_of}
 use Rattle.wl_control.specs.Places.{AllFrom, IsAnswer, junction_by, joined_by, trees}
 use Rattle.wl_control.specs.declared.place.Connective.{Connective}
 use Rattle.wl_control.specs.declared.place.Connective.TheVariants.{And, Or}
@@ -30,3 +33,9 @@ element_of Or left es e = refl
 pub element_asked : (k : Connective) (left : List Tree) (xs ys : List Stamped) (x : Stamped) (r : Result Step ExprFault) → xs ≡ x ∷ ys
     → IsAnswer (eval (plain x) (λ v. joined_by k left (trees ys) v)) r → IsAnswer (junction_by k left (trees xs)) r
 element_asked k left xs ys x r e h = subst (λ a. IsAnswer a r) (sym (ap (λ zs. junction_by k left (trees zs)) e ∙ element_of k left (trees ys) (plain x))) h
+
+-- the trees of what a node has as elements
+pub elements_shared : (h : Stamped) (ts qs : List Stamped) (t : Tree) → tree.node (plain h) (plains (from_list ts)) ≡ t → qs ≡ ts → Some (trees qs) ≡ elements_of t
+elements_shared h ts qs t e q =
+    let same : to_list (plains (from_list ts)) ≡ trees ts = ap to_list (plains_from_list ts) ∙ to_list_from_list (trees ts) in
+    ap (λ xs. Some (trees xs)) q ∙ ap Some (sym same) ∙ ap elements_of e

@@ -4,10 +4,12 @@ use Rattle.std.specs.List.{All}
 use Rattle.wl_expr.specs.Passed.{IsFrom}
 use Rattle.wl_expr.specs.Stamped.{Stamped, plain}
 use Rattle.wl_expr.specs.Tree.{Tree, IsWithinLimits}
+use Rattle.wl_expr.specs.Words.{applied}
 use Rattle.wl_expr.specs.declared.fault.ExprFault.{ExprFault}
 use Rattle.wl_expr.specs.declared.fault.ExprFault.TheVariants.{Large}
 use Rattle.wl_control.specs.Asks.{Asks, gives, stays, eval, eval_catching, matches, by_truth, Caught, value, broke, continued}
 use Rattle.wl_control.specs.Branches.{which_from, switch_from, left_over, joined, conjunction, disjunction, compound_row}
+use Rattle.wl_control.specs.Families.{scan_from, fold_from}
 use Rattle.wl_control.specs.Loops.{loop_from, part, after_condition, after_part}
 use Rattle.wl_control.specs.Stand.{Question, evaluate, test, assign, begin_pass, overflow, result, unchanged, Answer, start, came, matched, went, Stand, starts, for_value, for_end, for_match, for_leave, over, asked, behind, IsTooLarge}
 use Rattle.wl_control.specs.declared.place.Ask.{Ask}
@@ -26,6 +28,10 @@ use Rattle.wl_control.specs.declared.place.Valued.TheVariants as valued
 use Rattle.wl_control.specs.declared.place.Ended.{Ended}
 use Rattle.wl_control.specs.declared.place.Ended.TheVariants as end
 use Rattle.wl_control.specs.declared.place.Loop.{Loop}
+use Rattle.wl_control.specs.declared.place.Left.{Left}
+use Rattle.wl_control.specs.declared.place.Left.TheVariants as left
+use Rattle.wl_control.specs.declared.place.Call.{Call}
+use Rattle.wl_control.specs.declared.place.Fold.{Fold}
 use Rattle.wl_control.specs.declared.place.Switch.{Switch}
 use Rattle.wl_control.specs.declared.place.Junction.{Junction}
 use Rattle.wl_control.specs.declared.place.Connective.{Connective}
@@ -103,6 +109,8 @@ row_asks (row.Junction j) = junction_asks j
 row_asks (row.Compound e es) = compound_row (plain e ∷ trees es.items)
 row_asks (row.While l) = loop_asks l
 row_asks (row.For s l) = eval (plain s) (λ v. loop_asks l)
+row_asks (row.Scan f) = scan_from (plain f.function) (trees f.rest.items)
+row_asks (row.Fold f v) = fold_from (plain f.function) (plain v) (trees f.rest.items)
 
 abbrev pub value_asks : Valued → Tree → Asks
 value_asks (valued.Which v es) u = by_truth u (gives (plain v)) (which_from (trees es.items)) stays
@@ -110,18 +118,30 @@ value_asks (valued.Switch s) q = matches (plain s.subject) q (switch_asks s)
 value_asks (valued.Junction j) v = joined_by j.connective (trees j.left.items) (trees j.rest.items) v
 value_asks (valued.Compound e es) v = compound_row (plain e ∷ trees es.items)
 value_asks (valued.For l) v = loop_asks l
+value_asks (valued.Scan f) v = scan_from (plain f.function) (trees f.rest.items)
+value_asks (valued.Fold f) w = fold_from (plain f.function) w (trees f.rest.items)
 
 abbrev pub end_asks : Ended → Caught → Asks
 end_asks (end.Condition l) u = after_condition u (body_asks l) (step_asks l)
 end_asks (end.Body l) u = after_part u (step_asks l)
 end_asks (end.Step l) u = after_part u (loop_asks l)
 
+abbrev pub call_tree : Call → Tree
+call_tree c = applied (plain c.function) (trees c.args.items)
+
+abbrev pub call_asks : Call → Valued → Asks
+call_asks c v = eval (call_tree c) (value_asks v)
+
+abbrev pub left_asks : Left → Asks
+left_asks (left.Condition l) = condition_asks l
+left_asks (left.Call c v) = call_asks c v
+
 abbrev pub stand_at : Place → Stand
 stand_at (place.Start r) = starts (row_asks r)
 stand_at (place.Value v) = for_value (value_asks v)
 stand_at (place.End e) = for_end (end_asks e)
 stand_at (place.Match s) = for_match (switch_asks s)
-stand_at (place.Leave l) = for_leave (λ _. condition_asks l)
+stand_at (place.Leave l) = for_leave (λ _. left_asks l)
 stand_at place.Over = over
 
 -- the step is what is asked next, which isn't too large; and Large comes only where it is
@@ -165,6 +185,12 @@ OptionIsFrom ms (Some e) = IsFrom ms e
 abbrev pub LoopIsFrom : List Stamped → Loop → Type 0
 LoopIsFrom ms l = IsFrom ms l.condition × OptionIsFrom ms l.body × OptionIsFrom ms l.step
 
+abbrev pub FoldIsFrom : List Stamped → Fold → Type 0
+FoldIsFrom ms f = IsFrom ms f.function × AllFrom ms f.rest.items
+
+abbrev pub CallIsFrom : List Stamped → Call → Type 0
+CallIsFrom ms c = IsFrom ms c.function × AllFrom ms c.args.items
+
 abbrev pub RowIsFrom : List Stamped → Row → Type 0
 RowIsFrom ms row.Stays = ⊤
 RowIsFrom ms (row.Gives e) = IsFrom ms e
@@ -174,6 +200,8 @@ RowIsFrom ms (row.Junction j) = JunctionIsFrom ms j
 RowIsFrom ms (row.Compound e es) = IsFrom ms e × AllFrom ms es.items
 RowIsFrom ms (row.While l) = LoopIsFrom ms l
 RowIsFrom ms (row.For s l) = IsFrom ms s × LoopIsFrom ms l
+RowIsFrom ms (row.Scan f) = FoldIsFrom ms f
+RowIsFrom ms (row.Fold f v) = FoldIsFrom ms f × IsFrom ms v
 
 abbrev pub ValuedIsFrom : List Stamped → Valued → Type 0
 ValuedIsFrom ms (valued.Which v es) = IsFrom ms v × AllFrom ms es.items
@@ -181,18 +209,24 @@ ValuedIsFrom ms (valued.Switch s) = SwitchIsFrom ms s
 ValuedIsFrom ms (valued.Junction j) = JunctionIsFrom ms j
 ValuedIsFrom ms (valued.Compound e es) = IsFrom ms e × AllFrom ms es.items
 ValuedIsFrom ms (valued.For l) = LoopIsFrom ms l
+ValuedIsFrom ms (valued.Scan f) = FoldIsFrom ms f
+ValuedIsFrom ms (valued.Fold f) = FoldIsFrom ms f
 
 abbrev pub EndedIsFrom : List Stamped → Ended → Type 0
 EndedIsFrom ms (end.Condition l) = LoopIsFrom ms l
 EndedIsFrom ms (end.Body l) = LoopIsFrom ms l
 EndedIsFrom ms (end.Step l) = LoopIsFrom ms l
 
+abbrev pub LeftIsFrom : List Stamped → Left → Type 0
+LeftIsFrom ms (left.Condition l) = LoopIsFrom ms l
+LeftIsFrom ms (left.Call c v) = CallIsFrom ms c × ValuedIsFrom ms v
+
 abbrev pub PlaceIsFrom : List Stamped → Place → Type 0
 PlaceIsFrom ms (place.Start r) = RowIsFrom ms r
 PlaceIsFrom ms (place.Value v) = ValuedIsFrom ms v
 PlaceIsFrom ms (place.End e) = EndedIsFrom ms e
 PlaceIsFrom ms (place.Match s) = SwitchIsFrom ms s
-PlaceIsFrom ms (place.Leave l) = LoopIsFrom ms l
+PlaceIsFrom ms (place.Leave l) = LeftIsFrom ms l
 PlaceIsFrom ms place.Over = ⊤
 
 abbrev pub IsPassed : List Stamped → Result Step ExprFault → Type 0

@@ -1,17 +1,18 @@
 //! The cursor: where a row stands between its questions.
 ghost use Rattle.std.specs.Prelude.{◌≡◌, ◌↔◌, IsTrue, IfOk, IfSome, OnErr, List, Some, option_map};
 ghost use Rattle.wl_control.specs.Cursors.{stand, HoldsFrom, IsHeldFrom};
-ghost use Rattle.wl_control.specs.Places.{plain_ask, told, trees, AllFrom, AskIsFrom, LastIsFrom, stand_at, PlaceIsFrom, IsAnswer, IsPassed, row_asks, RowIsFrom, value_asks, ValuedIsFrom};
+ghost use Rattle.wl_control.specs.Places.{plain_ask, told, trees, AllFrom, AskIsFrom, LastIsFrom, stand_at, PlaceIsFrom, IsAnswer, IsPassed, row_asks, RowIsFrom, left_asks, LeftIsFrom, value_asks, ValuedIsFrom};
 ghost use Rattle.wl_control.specs.Stand.{Catches, start, starts, over, asked, behind, after, IsAskedBy, IsAwaited, IsTooLarge};
 ghost use Rattle.wl_control.specs.Table.{row_of};
 ghost use Rattle.wl_expr.specs.Passed.{IsFrom};
 ghost use Rattle.wl_expr.specs.Stamped.{Stamped, plain};
 
 use crate::choices::{switch_from, switch_matched, switch_on, which_from, which_on};
+use crate::families::{call_from, fold_from, scan_from};
 use crate::junction::{compound_from, junction_from, junction_on};
 use crate::kind::kind_of;
 use crate::loops::{condition_from, loop_from, loop_on};
-use crate::place::{Ask, Caught, Last, Place, Row, Step, Valued};
+use crate::place::{Ask, Caught, Last, Left, Place, Row, Step, Valued};
 use crate::rows::row;
 use crate::step::{evaluate, give, stay};
 use std::alloc::Global;
@@ -90,8 +91,8 @@ fn answered(alloc: Global, place: Place, last: Last<'_>) -> Result<Step, ExprFau
             Last::Continued => loop_on(alloc, ended, Caught::Continued),
             _ => stay(),
         },
-        Place::Leave(state) => match last {
-            Last::Went => condition_from(state),
+        Place::Leave(left) => match last {
+            Last::Went => left_from(alloc, left),
             _ => stay(),
         },
         Place::Match(switch) => match last {
@@ -99,6 +100,17 @@ fn answered(alloc: Global, place: Place, last: Last<'_>) -> Result<Step, ExprFau
             _ => stay(),
         },
         Place::Over => stay(),
+    }
+}
+
+/// What comes once a pass has begun.
+fn left_from(alloc: Global, left: Left) -> Result<Step, ExprFault>
+    ensures answer { IsAnswer (left_asks left) result }
+    ensures passed { (ms : List Stamped) → LeftIsFrom ms left → IsPassed ms result }
+{
+    match left {
+        Left::Condition(state) => condition_from(state),
+        Left::Call(call, then) => call_from(alloc, call, then),
     }
 }
 
@@ -116,6 +128,8 @@ fn row_from(alloc: Global, row: Row) -> Result<Step, ExprFault>
         Row::Compound(first, rest) => compound_from(first, rest),
         Row::While(state) => loop_from(state),
         Row::For(start, state) => evaluate(start, Valued::For(state)),
+        Row::Scan(fold) => scan_from(alloc, fold),
+        Row::Fold(fold, value) => fold_from(alloc, fold, value),
     }
 }
 
@@ -130,5 +144,7 @@ fn value_on(alloc: Global, valued: Valued, value: &Expr) -> Result<Step, ExprFau
         Valued::Junction(junction) => junction_on(alloc, junction, value),
         Valued::Compound(first, rest) => compound_from(first, rest),
         Valued::For(state) => loop_from(state),
+        Valued::Scan(fold) => scan_from(alloc, fold),
+        Valued::Fold(fold) => fold_from(alloc, fold, value.copy()?),
     }
 }

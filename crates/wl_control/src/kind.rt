@@ -14,6 +14,8 @@ pub enum Kind {
     CompoundExpression,
     While,
     For,
+    Scan,
+    Fold,
 }
 
 /// The row of this name.
@@ -29,6 +31,8 @@ pub(crate) fn kind_of(name: &str) -> Option<Kind>
         "CompoundExpression" => Some(Kind::CompoundExpression),
         "While" => Some(Kind::While),
         "For" => Some(Kind::For),
+        "Scan" => Some(Kind::Scan),
+        "Fold" => Some(Kind::Fold),
         _ => None,
     }
 }

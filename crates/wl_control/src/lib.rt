@@ -3,6 +3,7 @@
 
 mod choices;
 mod cursor;
+mod families;
 mod junction;
 mod kind;
 mod loops;

@@ -4,7 +4,7 @@ ghost use Rattle.wl_control.specs.Loops.{after_condition, after_part};
 ghost use Rattle.wl_control.specs.Places.{IsAnswer, IsPassed, LoopIsFrom, loop_asks, step_asks, body_asks, condition_asks, plain_caught, end_asks, EndedIsFrom};
 ghost use Rattle.wl_expr.specs.Stamped.{Stamped};
 
-use crate::place::{Ask, Caught, Ended, Loop, Place, Step};
+use crate::place::{Ask, Caught, Ended, Left, Loop, Place, Step};
 use crate::step::{catch, give_null, is_symbol, stay};
 use std::alloc::Global;
 use wl_expr::ExprFault;
@@ -23,7 +23,7 @@ pub(crate) fn loop_from(mut state: Loop) -> Result<Step, ExprFault>
     state.passes -= 1;
     Ok(Step {
         ask: Ask::Pass,
-        place: Place::Leave(state),
+        place: Place::Leave(Left::Condition(state)),
     })
 }
 

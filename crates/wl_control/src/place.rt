@@ -54,7 +54,7 @@ pub enum Place {
     Value(Valued),
     End(Ended),
     Match(Switch),
-    Leave(Loop),
+    Leave(Left),
     Over,
 }
 
@@ -69,6 +69,8 @@ pub enum Row {
     Compound(Expr, VecDeque<Expr>),
     While(Loop),
     For(Expr, Loop),
+    Scan(Fold),
+    Fold(Fold, Expr),
 }
 
 /// What a value decides.
@@ -79,6 +81,8 @@ pub enum Valued {
     Junction(Junction),
     Compound(Expr, VecDeque<Expr>),
     For(Loop),
+    Scan(Fold),
+    Fold(Fold),
 }
 
 /// What the end of an evaluation decides, where Break and Continue are caught.
@@ -87,6 +91,27 @@ pub enum Ended {
     Condition(Loop),
     Body(Loop),
     Step(Loop),
+}
+
+/// What comes once a pass has begun.
+#[derive(Drop)]
+pub enum Left {
+    Condition(Loop),
+    Call(Call, Valued),
+}
+
+/// A function, and what it is applied to.
+#[derive(Drop)]
+pub struct Call {
+    pub function: Expr,
+    pub args: Vec<Expr>,
+}
+
+/// A function over the elements that are left.
+#[derive(Drop)]
+pub struct Fold {
+    pub function: Expr,
+    pub rest: VecDeque<Expr>,
 }
 
 /// The choice of `Switch` at one of its patterns: what it chooses there, and what it goes on with.

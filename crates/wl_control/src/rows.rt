@@ -1,20 +1,22 @@
 //! The rows before their first question, by their elements.
-ghost use Rattle.std.specs.Prelude.{◌≡◌, IfOk, List};
+ghost use Rattle.std.specs.Prelude.{◌≡◌, IfOk, IfSome, List, option_map};
 ghost use Rattle.wl_control.specs.Asks.{by_truth};
 ghost use Rattle.wl_control.specs.Branches.{if_row, which_row, switch_row, compound_row};
+ghost use Rattle.wl_control.specs.Families.{elements_of, scan_row, fold_row};
 ghost use Rattle.wl_control.specs.Kinds.{row_by};
 ghost use Rattle.wl_control.specs.Loops.{while_row, for_row};
 ghost use Rattle.wl_control.specs.Places.{AllFrom, RowIsFrom, junction_by, row_asks, trees};
+ghost use Rattle.wl_expr.specs.Passed.{IsFrom};
 ghost use Rattle.wl_expr.specs.Stamped.{Stamped, plain};
 ghost use Rattle.std.specs.Prelude.{[]};
 
 use crate::kind::Kind;
 use crate::loops::PASSES;
-use crate::place::{Connective, Junction, Loop, Row};
+use crate::place::{Connective, Fold, Junction, Loop, Row};
 use crate::step::{is_symbol, symbol};
 use std::alloc::Global;
 use std::collections::VecDeque;
-use wl_expr::Expr;
+use wl_expr::{Expr, Look};
 use wl_ports::Memory;
 
 /// The row of this kind.
@@ -31,6 +33,8 @@ pub(crate) fn row(alloc: Global, kind: Kind, args: &[Expr]) -> Result<Row, Memor
         Kind::CompoundExpression => compound_row(alloc, args),
         Kind::While => while_row(alloc, args),
         Kind::For => for_row(alloc, args),
+        Kind::Scan => scan_row(alloc, args),
+        Kind::Fold => fold_row(alloc, args),
     }
 }
 
@@ -192,5 +196,59 @@ fn for_row(alloc: Global, args: &[Expr]) -> Result<Row, Memory>
             };
             Ok(Row::For(start, state))
         }
+    }
+}
+
+/// The elements of a node, which it shares.
+fn elements(alloc: Global, e: &Expr) -> Result<Option<VecDeque<Expr>>, Memory>
+    ensures elements { IfOk result (λ q. option_map (λ q. trees q.items) q ≡ elements_of (plain e.now)) }
+    ensures passed { IfOk result (λ q. IfSome q (λ q. (ms : List Stamped) → IsFrom ms e.now → AllFrom ms q.items)) }
+{
+    match e.view() {
+        Look::Node(_, args) => Ok(Some(queue(alloc, args)?)),
+        _ => Ok(None),
+    }
+}
+
+fn scan_row(alloc: Global, args: &[Expr]) -> Result<Row, Memory>
+    ensures row { IfOk result (λ r. row_asks r ≡ scan_row (trees args.now)) }
+    ensures passed { IfOk result (λ r. (ms : List Stamped) → AllFrom ms args.now → RowIsFrom ms r) }
+{
+    let mut args = queue(alloc, args)?;
+    let Some(function) = args.pop_front() else {
+        return Ok(Row::Stays);
+    };
+    let Some(list) = args.pop_front() else {
+        return Ok(Row::Stays);
+    };
+    match args.pop_front() {
+        Some(_) => Ok(Row::Stays),
+        None => match elements(alloc, &list)? {
+            Some(rest) => Ok(Row::Scan(Fold { function, rest })),
+            None => Ok(Row::Stays),
+        },
+    }
+}
+
+fn fold_row(alloc: Global, args: &[Expr]) -> Result<Row, Memory>
+    ensures row { IfOk result (λ r. row_asks r ≡ fold_row (trees args.now)) }
+    ensures passed { IfOk result (λ r. (ms : List Stamped) → AllFrom ms args.now → RowIsFrom ms r) }
+{
+    let mut args = queue(alloc, args)?;
+    let Some(function) = args.pop_front() else {
+        return Ok(Row::Stays);
+    };
+    let Some(first) = args.pop_front() else {
+        return Ok(Row::Stays);
+    };
+    let Some(list) = args.pop_front() else {
+        return Ok(Row::Stays);
+    };
+    match args.pop_front() {
+        Some(_) => Ok(Row::Stays),
+        None => match elements(alloc, &list)? {
+            Some(rest) => Ok(Row::Fold(Fold { function, rest }, first)),
+            None => Ok(Row::Stays),
+        },
     }
 }
