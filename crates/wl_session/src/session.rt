@@ -3,7 +3,7 @@ ghost use Rattle.std.specs.Prelude.{◌≡◌, ◌+◌, [], ◌∷◌, length, O
 ghost use Rattle.wl_expr.specs.Stamped.{plain};
 ghost use Rattle.wl_scan.specs.CellText.{cell_text};
 ghost use Rattle.wl_scan.specs.Cells.{IsWithinCell};
-ghost use Rattle.wl_session.specs.Answers.{IsAnswer, refusal, outcome, sum_outcome, overflow_item, overflow_text, overflow_value, shown, shown_answer, after, fresh};
+ghost use Rattle.wl_session.specs.Answers.{IsAnswer, refusal, outcome, sum_outcome, overflow_item, overflow_value, shown, shown_answer, after, fresh};
 ghost use Rattle.wl_session.specs.Reading.{read};
 ghost use Rattle.wl_session.specs.Refusal.{refusal_line};
 ghost use Rattle.wl_session.specs.SessionView.{state_of};
@@ -15,6 +15,7 @@ use std::alloc::Global;
 use std::marker::Model;
 use wl_exact::{Num, NumFault};
 use wl_expr::{Expr, ExprFault};
+use wl_form::input_form;
 use wl_ports::Memory;
 use wl_scan::Cell;
 
@@ -112,16 +113,13 @@ impl Session {
         }
     }
 
-    /// A sum is a whole number here.
     fn show_sum(&mut self, alloc: Global, input: Expr, sum: Num) -> Result<(), Memory>
         ensures state { OnOk result (state_of self.new ≡ after (state_of self.old) (sum_outcome (plain input) (Ok sum))) }
         ensures pending { OnOk result (self.new.pending ≡ shown (length self.old.lines + 1) (sum_outcome (plain input) (Ok sum))) }
         ensures unchanged { OnErr result (self.new.lines ≡ self.old.lines) }
     {
-        let number = self.lines.len() as u128 + 1;
         let value = Expr::num(alloc, sum)?;
-        let text = sum.num();
-        self.pending = format!(in alloc; "Out[{number}]= {text}\n")?;
+        self.pending = answer_shown(alloc, self.lines.len() as u128 + 1, &value)?;
         self.lines.push(Line { input, value })?;
         Ok(())
     }
@@ -132,19 +130,27 @@ impl Session {
         ensures unchanged { OnErr result (self.new.lines ≡ self.old.lines) }
     {
         let value = overflow_expr(alloc)?;
-        self.pending = overflow_shown(alloc, self.lines.len() as u128 + 1)?;
+        self.pending = overflow_shown(alloc, self.lines.len() as u128 + 1, &value)?;
         self.lines.push(Line { input, value })?;
         Ok(())
     }
 }
 
-/// What is shown where the sum of a line overflows.
-fn overflow_shown(alloc: Global, number: u128) -> Result<String, Memory>
-    ensures { IfOk result (λ text. string_bytes text ≡ shown_answer number (overflow_item ∷ []) overflow_text) }
+/// What is shown of a value.
+fn answer_shown(alloc: Global, number: u128, value: &Expr) -> Result<String, Memory>
+    ensures { IfOk result (λ text. string_bytes text ≡ shown_answer number [] (plain value.now)) }
 {
-    let text = format!(in alloc;
-        "General::ovfl: Overflow occurred in computation.\nOut[{number}]= Overflow[]\n"
-    )?;
+    let value = input_form(alloc, value)?;
+    let text = format!(in alloc; "Out[{number}]= {value}\n")?;
+    Ok(text)
+}
+
+/// What is shown where the sum of a line overflows.
+fn overflow_shown(alloc: Global, number: u128, value: &Expr) -> Result<String, Memory>
+    ensures { IfOk result (λ text. string_bytes text ≡ shown_answer number (overflow_item ∷ []) (plain value.now)) }
+{
+    let answer = answer_shown(alloc, number, value)?;
+    let text = format!(in alloc; "General::ovfl: Overflow occurred in computation.\n{answer}")?;
     Ok(text)
 }
 
