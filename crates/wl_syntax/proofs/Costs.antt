@@ -1,8 +1,8 @@
 -- What the tokens of a text cost, and that their atoms have the forms of their kinds.
-use Rattle.std.proofs.Common.{ℕ, zero, suc, ◌+◌, ◌-◌, ◌*◌, ◌<◌, ◌≤◌, ◌≡◌, Bool, true, false, ◌&&◌, ◌==◌, nat_eq, List, [], ◌∷◌, ◌++◌, map, length, take, drop, get_or, min, refl, sym, ap, ◌∙◌, subst, arith}
+use Rattle.std.proofs.Common.{ℕ, zero, suc, ◌+◌, ◌-◌, ◌*◌, ◌<◌, ◌≤◌, ◌≡◌, Bool, true, false, ◌&&◌, leb, ◌==◌, nat_eq, List, [], ◌∷◌, ◌++◌, map, length, take, drop, get_or, min, refl, sym, ap, ◌∙◌, subst, arith}
 use Rattle.std.proofs.lemmas.List.{length-take, length-append}
 use Rattle.std.proofs.lemmas.List.Sums.{split_at_first}
-use Rattle.std.proofs.lemmas.Bool.{eqb-false}
+use Rattle.std.proofs.lemmas.Bool.{eqb-false, leb-true}
 use Rattle.std.proofs.lemmas.Slice.Eq.{bytes_eq-Decides}
 use Rattle.std.proofs.lemmas.Str.{length-encode, len_utf8_bounds}
 use Rattle.std.proofs.Math.ListN.{length-drop}
@@ -22,9 +22,9 @@ use Rattle.wl_scan.specs.declared.token.Token.{Token as CodeLexeme}
 use Rattle.wl_scan.proofs.Forms.{found_has}
 use Rattle.wl_scan.proofs.Steps.{Advances, found_advances}
 use Rattle.wl_syntax.specs.declared.operator.Sign.TheVariants as sign
-use Rattle.wl_syntax.specs.Answers.{IsTreeOf}
+use Rattle.wl_syntax.specs.Parsed.{IsTreeOf}
 use Rattle.wl_syntax.specs.Atoms.{named, whole_number, index, slot_tree, output_tree, blank, blanks, bound, defaulted, pattern_tree, escaped, unquoted, string_of, atom_tree}
-use Rattle.wl_syntax.specs.Lexer.{picked, sign_token, token_of_kind, grammar_token, tokens}
+use Rattle.wl_syntax.specs.Lexer.{signs, looked_up, token_of_kind, grammar_token, tokens}
 use Rattle.wl_syntax.specs.Polish.{Node, polish}
 use Rattle.wl_syntax.specs.Small.{sign_bytes, cost, costs, max_cost, TokensFit, AtomsFit, ElemsFit, IsSmall}
 use Rattle.wl_syntax.specs.Table.{infix_sign}
@@ -40,20 +40,53 @@ pub record Fits (s : List ℕ) (k : Token) : Type 0 where
 
 -- signs
 
-picked_fits : (s sp : List ℕ) (t other : Token) → ((ks : List Token) → TokensFit ks → TokensFit (t ∷ ks)) → cost t ≤ 15 * length sp → Fits s other → Fits s (picked s sp t other)
-picked_fits s sp t other f l o = go (bytes_eq s sp) refl
+first_holds : (a b : Bool) → (a && b) ≡ true → a ≡ true
+first_holds true b e = refl
+first_holds false b e = absurd (cc)
+
+both : (a b : Bool) → (a && b) ≡ true → b ≡ true
+both true b e = e
+both false b e = absurd (cc)
+
+-- no atom, and at most 15 a byte of the text
+abbrev is_cheap : Token → List ℕ → Bool
+is_cheap (token.atom a) s = false
+is_cheap k s = leb (cost k) (15 * length s)
+
+abbrev all_cheap : List (List ℕ × Token) → Bool
+all_cheap [] = true
+all_cheap (row ∷ rows) = is_cheap row.1 row.0 && all_cheap rows
+
+cheap_fits : (k : Token) (s : List ℕ) → is_cheap k s ≡ true → Fits s k
+unfolding cost TokensFit
+cheap_fits (token.atom a) s e = absurd (cc)
+cheap_fits (token.sign g) s e = record { form = λ ks h. h; light = leb-true _ _ e }
+cheap_fits token.open_round s e = record { form = λ ks h. h; light = leb-true _ _ e }
+cheap_fits token.close_round s e = record { form = λ ks h. h; light = leb-true _ _ e }
+cheap_fits token.open_square s e = record { form = λ ks h. h; light = leb-true _ _ e }
+cheap_fits token.close_square s e = record { form = λ ks h. h; light = leb-true _ _ e }
+cheap_fits token.open_brace s e = record { form = λ ks h. h; light = leb-true _ _ e }
+cheap_fits token.close_brace s e = record { form = λ ks h. h; light = leb-true _ _ e }
+cheap_fits token.comma s e = record { form = λ ks h. h; light = leb-true _ _ e }
+
+unused_fits : (s : List ℕ) → Fits s (token.sign sign.Unused)
+unfolding cost sign_bytes TokensFit
+unused_fits s = record { form = λ ks h. h; light = omega arith }
+
+looked_up_fits : (rows : List (List ℕ × Token)) → all_cheap rows ≡ true → (s : List ℕ) → Fits s (looked_up rows s)
+looked_up_fits [] e s = unused_fits s
+looked_up_fits (row ∷ rows) e s = go (bytes_eq s row.0) refl (cheap_fits row.1 row.0 (first_holds _ _ e)) (looked_up_fits rows (both _ _ e) s)
   where
-    go : (b : Bool) → bytes_eq s sp ≡ b → Fits s (if b then t else other)
-    go true e = let q = ap length ((bytes_eq-Decides s sp).0 e) in record { form = f; light = omega arith }
-    go false e = o
+    go : (b : Bool) → bytes_eq s row.0 ≡ b → Fits row.0 row.1 → Fits s (looked_up rows s) → Fits s (if b then row.1 else looked_up rows s)
+    go true q f g = subst (λ t. Fits t row.1) (sym ((bytes_eq-Decides s row.0).0 q)) f
+    go false q f g = g
 
-signed_other : (s : List ℕ) → Fits s (token.sign sign.Unused)
-unfolding cost sign_bytes TokensFit
-signed_other s = record { form = λ ks h. h; light = omega arith }
+signs_cheap : all_cheap signs ≡ true
+unfolding cost sign_bytes
+signs_cheap = refl
 
-sign_fits : (s : List ℕ) → Fits s (sign_token s)
-unfolding cost sign_bytes TokensFit
-sign_fits s = (picked_fits s (codes "(") token.open_round _ (λ ks h. h) (omega arith) (picked_fits s (codes ")") token.close_round _ (λ ks h. h) (omega arith) (picked_fits s (codes "[") token.open_square _ (λ ks h. h) (omega arith) (picked_fits s (codes "]") token.close_square _ (λ ks h. h) (omega arith) (picked_fits s (codes "{") token.open_brace _ (λ ks h. h) (omega arith) (picked_fits s (codes "}") token.close_brace _ (λ ks h. h) (omega arith) (picked_fits s (codes ",") token.comma _ (λ ks h. h) (omega arith) (picked_fits s (codes "::") (token.sign sign.ColonColon) _ (λ ks h. h) (omega arith) (picked_fits s (codes "?") (token.sign sign.Question) _ (λ ks h. h) (omega arith) (picked_fits s (codes "@") (token.sign sign.At) _ (λ ks h. h) (omega arith) (picked_fits s (codes "/@") (token.sign sign.SlashAt) _ (λ ks h. h) (omega arith) (picked_fits s (codes "@@") (token.sign sign.AtAt) _ (λ ks h. h) (omega arith) (picked_fits s (codes "@@@") (token.sign sign.AtAtAt) _ (λ ks h. h) (omega arith) (picked_fits s (codes "<>") (token.sign sign.LessGreater) _ (λ ks h. h) (omega arith) (picked_fits s (codes "^") (token.sign sign.Caret) _ (λ ks h. h) (omega arith) (picked_fits s (codes "/") (token.sign sign.Slash) _ (λ ks h. h) (omega arith) (picked_fits s (codes "*") (token.sign sign.Star) _ (λ ks h. h) (omega arith) (picked_fits s (codes "+") (token.sign sign.Plus) _ (λ ks h. h) (omega arith) (picked_fits s (codes "-") (token.sign sign.Dash) _ (λ ks h. h) (omega arith) (picked_fits s (codes "==") (token.sign sign.EqualsEquals) _ (λ ks h. h) (omega arith) (picked_fits s (codes "!=") (token.sign sign.BangEquals) _ (λ ks h. h) (omega arith) (picked_fits s (codes "<") (token.sign sign.Less) _ (λ ks h. h) (omega arith) (picked_fits s (codes "<=") (token.sign sign.LessEquals) _ (λ ks h. h) (omega arith) (picked_fits s (codes ">") (token.sign sign.Greater) _ (λ ks h. h) (omega arith) (picked_fits s (codes ">=") (token.sign sign.GreaterEquals) _ (λ ks h. h) (omega arith) (picked_fits s (codes "===") (token.sign sign.EqualsEqualsEquals) _ (λ ks h. h) (omega arith) (picked_fits s (codes "=!=") (token.sign sign.EqualsBangEquals) _ (λ ks h. h) (omega arith) (picked_fits s (codes "&&") (token.sign sign.AmpersandAmpersand) _ (λ ks h. h) (omega arith) (picked_fits s (codes "||") (token.sign sign.BarBar) _ (λ ks h. h) (omega arith) (picked_fits s (codes "|") (token.sign sign.Bar) _ (λ ks h. h) (omega arith) (picked_fits s (codes ":") (token.sign sign.Colon) _ (λ ks h. h) (omega arith) (picked_fits s (codes "~~") (token.sign sign.TildeTilde) _ (λ ks h. h) (omega arith) (picked_fits s (codes "/;") (token.sign sign.SlashSemicolon) _ (λ ks h. h) (omega arith) (picked_fits s (codes "->") (token.sign sign.DashGreater) _ (λ ks h. h) (omega arith) (picked_fits s (codes ":>") (token.sign sign.ColonGreater) _ (λ ks h. h) (omega arith) (picked_fits s (codes "/.") (token.sign sign.SlashDot) _ (λ ks h. h) (omega arith) (picked_fits s (codes "//.") (token.sign sign.SlashSlashDot) _ (λ ks h. h) (omega arith) (picked_fits s (codes "+=") (token.sign sign.PlusEquals) _ (λ ks h. h) (omega arith) (picked_fits s (codes "-=") (token.sign sign.DashEquals) _ (λ ks h. h) (omega arith) (picked_fits s (codes "*=") (token.sign sign.StarEquals) _ (λ ks h. h) (omega arith) (picked_fits s (codes "/=") (token.sign sign.SlashEquals) _ (λ ks h. h) (omega arith) (picked_fits s (codes "//") (token.sign sign.SlashSlash) _ (λ ks h. h) (omega arith) (picked_fits s (codes "=") (token.sign sign.Equals) _ (λ ks h. h) (omega arith) (picked_fits s (codes ":=") (token.sign sign.ColonEquals) _ (λ ks h. h) (omega arith) (picked_fits s (codes "^=") (token.sign sign.CaretEquals) _ (λ ks h. h) (omega arith) (picked_fits s (codes "^:=") (token.sign sign.CaretColonEquals) _ (λ ks h. h) (omega arith) (picked_fits s (codes "/:") (token.sign sign.SlashColon) _ (λ ks h. h) (omega arith) (picked_fits s (codes ";") (token.sign sign.Semicolon) _ (λ ks h. h) (omega arith) (picked_fits s (codes "++") (token.sign sign.PlusPlus) _ (λ ks h. h) (omega arith) (picked_fits s (codes "--") (token.sign sign.MinusMinus) _ (λ ks h. h) (omega arith) (picked_fits s (codes "!") (token.sign sign.Bang) _ (λ ks h. h) (omega arith) (picked_fits s (codes "..") (token.sign sign.DotDot) _ (λ ks h. h) (omega arith) (picked_fits s (codes "...") (token.sign sign.DotDotDot) _ (λ ks h. h) (omega arith) (picked_fits s (codes "&") (token.sign sign.Ampersand) _ (λ ks h. h) (omega arith) (picked_fits s (codes "=.") (token.sign sign.EqualsDot) _ (λ ks h. h) (omega arith) (signed_other s))))))))))))))))))))))))))))))))))))))))))))))))))))))))
+sign_fits : (s : List ℕ) → Fits s (looked_up signs s)
+sign_fits s = looked_up_fits signs signs_cheap s
 
 -- atoms
 
@@ -63,10 +96,6 @@ either_weight false x y n a b = b
 
 index_weight : (s : List ℕ) → weight (index s) ≤ 1
 index_weight s = either_weight (length s == 0) _ _ 1 (omega arith) (omega arith)
-
-both : (a b : Bool) → (a && b) ≡ true → b ≡ true
-both true b e = e
-both false b e = absurd (cc)
 
 two_long : (c d : ℕ) (s : List ℕ) → starts_with nat_eq s (c ∷ d ∷ []) ≡ true → 2 ≤ length s
 two_long c d [] e = absurd (cc)

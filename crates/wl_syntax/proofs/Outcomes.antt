@@ -8,7 +8,7 @@ use Rattle.wl_scan.specs.Tokens.{Lexeme, scanned}
 use Rattle.wl_scan.specs.declared.token.Token.{Token as CodeLexeme}
 use Rattle.wl_syntax.specs.declared.parser.TreeFault.{TreeFault}
 use Rattle.wl_syntax.specs.declared.parser.TreeFault.TheVariants.{Unexpected}
-use Rattle.wl_syntax.specs.Answers.{Answers, IsTreeOf, IsUnclosed, IsUnexpected}
+use Rattle.wl_syntax.specs.Parsed.{IsParsed, IsTreeOf, IsUnclosed, IsUnexpected}
 use Rattle.wl_syntax.specs.Depth.{depth, max_depth}
 use Rattle.wl_expr.specs.Stamped.{Stamped, plain, unstamped, plain_unstamped}
 use Rattle.wl_syntax.specs.Lexer.{grammar_token, tokens}
@@ -64,5 +64,5 @@ unexpected_read bytes ls ks i l h u e =
     (h.scanned_text, (i, subst (λ k. IsUnexpected k i) (lexed_tokens bytes ls ks h) u, subst (λ m. StandsAt bytes i m.at) (sym e) (stands_at bytes ls i l h.lexemes (place_within bytes ls ks i h u))))
 
 -- what the parser's answer says of an unexpected token
-pub at_unexpected : (ks ls : List Token) (f : TreeFault) (i : ℕ) → Answers (λ (ns : List Node). ns) ks (Err f) → f ≡ Unexpected i → ks ≡ ls → IsUnexpected ls i
-at_unexpected ks ls f i a e g = subst (λ k. IsUnexpected k i) g (subst (λ h. Answers (λ (ns : List Node). ns) ks (Err h)) e a)
+pub at_unexpected : (ks ls : List Token) (f : TreeFault) (i : ℕ) → IsParsed (λ (ns : List Node). ns) ks (Err f) → f ≡ Unexpected i → ks ≡ ls → IsUnexpected ls i
+at_unexpected ks ls f i a e g = subst (λ k. IsUnexpected k i) g (subst (λ h. IsParsed (λ (ns : List Node). ns) ks (Err h)) e a)

@@ -18,7 +18,7 @@ use Rattle.wl_syntax.specs.Moves.{Holds, Moves, Finishes}
 use Rattle.wl_syntax.specs.TagsHold.{TagsHold}
 use Rattle.wl_syntax.specs.declared.machine.Machine.{Machine}
 use Rattle.wl_syntax.specs.declared.tags.Tags.{Tags}
-use Rattle.wl_syntax.specs.Answers.{IsTreeOf, HasNoTree, IsUnclosed, IsUnexpected, first_unmet}
+use Rattle.wl_syntax.specs.Parsed.{IsTreeOf, HasNoTree, IsUnclosed, IsUnexpected, first_unmet}
 use Rattle.wl_syntax.proofs.Reading.{run-append, complete}
 use Rattle.wl_syntax.proofs.Sound.{sound}
 use Rattle.wl_syntax.proofs.Viable.{run_dead, viable}

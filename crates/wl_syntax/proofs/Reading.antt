@@ -191,9 +191,9 @@ beside : (k : Token) → Opens k → (s : List Open) (t : Tree) → ends_last t 
 unfolding step closed
 beside k g = on-whole (λ st. step st k ≡ step (join Beside (closed (infix_level Beside) st)) k) (λ s x. g s x ∙ sym (start_join Beside (close (infix_level Beside) s x) k))
 
-ended : (g : Sign) (o : Postfix) → role g ≡ ends o → (s : List Open) (t : Tree) → ends_last t ≡ false → step (push s t) (token.sign g) ≡ end_with o (closed (postfix_level o) (push s t))
+step_postfix : (g : Sign) (o : Postfix) → role g ≡ ends o → (s : List Open) (t : Tree) → ends_last t ≡ false → step (push s t) (token.sign g) ≡ end_with o (closed (postfix_level o) (push s t))
 unfolding step go_on with_role closed
-ended g o e = on-whole (λ st. step st (token.sign g) ≡ end_with o (closed (postfix_level o) st)) (λ s x. rw e refl)
+step_postfix g o e = on-whole (λ st. step st (token.sign g) ≡ end_with o (closed (postfix_level o) st)) (λ s x. rw e refl)
 
 opened : (s : List Open) (t : Tree) → ends_last t ≡ false → step (push s t) token.open_square ≡ open_square (closed 3 (push s t))
 unfolding step go_on closed
@@ -391,13 +391,13 @@ arrives Beside l r s a f n c =
 -- the step at a postfix operator
 postfixed : (o : Postfix) (s : List Open) (t : Tree) → ends_last t ≡ false → closed (postfix_level o) (push s t) ≡ has s t → step (push s t) (token.sign (postfix_sign o)) ≡ push s (after t o)
 unfolding postfix_sign role push end_with postfix_level
-postfixed Increment s t n c = ended sign.PlusPlus Increment refl s t n ∙ ap (end_with Increment) c
-postfixed Decrement s t n c = ended sign.MinusMinus Decrement refl s t n ∙ ap (end_with Decrement) c
-postfixed Factorial s t n c = ended sign.Bang Factorial refl s t n ∙ ap (end_with Factorial) c
-postfixed Repeated s t n c = ended sign.DotDot Repeated refl s t n ∙ ap (end_with Repeated) c
-postfixed RepeatedNull s t n c = ended sign.DotDotDot RepeatedNull refl s t n ∙ ap (end_with RepeatedNull) c
-postfixed Function s t n c = ended sign.Ampersand Function refl s t n ∙ ap (end_with Function) c
-postfixed Unset s t n c = ended sign.EqualsDot Unset refl s t n ∙ ap (end_with Unset) c
+postfixed Increment s t n c = step_postfix sign.PlusPlus Increment refl s t n ∙ ap (end_with Increment) c
+postfixed Decrement s t n c = step_postfix sign.MinusMinus Decrement refl s t n ∙ ap (end_with Decrement) c
+postfixed Factorial s t n c = step_postfix sign.Bang Factorial refl s t n ∙ ap (end_with Factorial) c
+postfixed Repeated s t n c = step_postfix sign.DotDot Repeated refl s t n ∙ ap (end_with Repeated) c
+postfixed RepeatedNull s t n c = step_postfix sign.DotDotDot RepeatedNull refl s t n ∙ ap (end_with RepeatedNull) c
+postfixed Function s t n c = step_postfix sign.Ampersand Function refl s t n ∙ ap (end_with Function) c
+postfixed Unset s t n c = step_postfix sign.EqualsDot Unset refl s t n ∙ ap (end_with Unset) c
 
 lasted : (s : List Open) (t : Tree) → ends_last t ≡ false → closed 30 (push s t) ≡ has s t → step (push s t) (token.sign sign.Semicolon) ≡ push s (last t)
 unfolding push

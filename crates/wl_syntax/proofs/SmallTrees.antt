@@ -21,7 +21,7 @@ use Rattle.wl_syntax.specs.Chain.{form, link, continues}
 use Rattle.wl_syntax.specs.Depth.{depth, depths, pairs, joined_depth, last_depth, max_depth}
 use Rattle.wl_syntax.specs.Fits.{FitsOfAll, FitSides, FitJoined}
 use Rattle.wl_syntax.specs.Lower.{whole, items, elements, lower, prefixed, operand_of, reach, statements}
-use Rattle.wl_syntax.specs.Lowered.{Takes, with_element, ended}
+use Rattle.wl_syntax.specs.Lowered.{Takes, with_element, whole_call}
 use Rattle.wl_syntax.specs.declared.token.Node.{Node as CodeNode}
 use Rattle.wl_syntax.specs.Polish.{node_of, Node, leaf_node, list_node, paren_node, element_node, call_node, part_node, before_node, after_node, last_node, between_node, polish}
 use Rattle.wl_syntax.specs.Small.{cost, costs, max_cost, IsAtom, AtomsFit, ElemsFit, TokensFit, IsSmall, IsSmallPiece, AllSmall, AreSmall, FitsItem, FitItems}
@@ -203,7 +203,7 @@ join_fits o k g h l r ws x y q p s c =
     (items l, items r, x.has_items, p ∙ y.has_items, subst (λ m. FitSides o m g.form h.form h.reach (items l) (items r)) (sym q) f3)
 
 -- calls
-pub call_fits : (a : Args) (p : Piece) → Is (code.Args a) p → IsSmall (ended p) → (h : full.Tree) × (es : List full.Tree) × (a.head ≡ unstamped h) × (a.elements.items ≡ unstamped_all es) × IsWithinLimits (full.node h (from_list es))
+pub call_fits : (a : Args) (p : Piece) → Is (code.Args a) p → IsSmall (whole_call p) → (h : full.Tree) × (es : List full.Tree) × (a.head ≡ unstamped h) × (a.elements.items ≡ unstamped_all es) × IsWithinLimits (full.node h (from_list es))
 call_fits a (tree t) i s = absurd i
 call_fits a (calling f xs) i s = let d = i.shallow in (lower f, elements xs, i.has_head, i.has_elements, small_fits (call f xs) s (omega arith))
 call_fits a (listing xs) i s = let d = i.shallow in (full.symbol (codes "List"), elements xs, i.has_head, i.has_elements, small_fits (brace xs) s (omega arith))
@@ -211,7 +211,7 @@ call_fits a (listing xs) i s = let d = i.shallow in (full.symbol (codes "List"),
 pub part_fits : (a : Args) (f : Tree) (xs : Elems) (t : Tree) → Is (code.Args a) (calling f (more xs t)) → IsSmall (part f xs t) → (h : full.Tree) × (es : List full.Tree) × (a.head ≡ unstamped h) × (a.elements.items ≡ unstamped_all es) × IsWithinLimits (named (codes "Part") (h ∷ es))
 part_fits a f xs t i s = let d = i.shallow in (lower f, elements (more xs t), i.has_head, i.has_elements, small_fits (part f xs t) s (omega arith))
 
-pub call_group : (i : Item) (g : Group) (p : Piece) → i ≡ code.Whole g → Is i p → IsSmall (ended p) → (t : Tree) × IsGroup g t × IsSmall (call t none)
+pub call_group : (i : Item) (g : Group) (p : Piece) → i ≡ code.Whole g → Is i p → IsSmall (whole_call p) → (t : Tree) × IsGroup g t × IsSmall (call t none)
 call_group i g (tree t) e h s = (t, subst (λ j. Is j (tree t)) e h, s)
 call_group i g (calling f xs) e h s = absurd (subst (λ j. Is j (calling f xs)) e h)
 call_group i g (listing xs) e h s = absurd (subst (λ j. Is j (listing xs)) e h)
@@ -266,7 +266,7 @@ unfolding build
 last_small is js i w (pieces (tree t ∷ ps)) a s = (t, (w (tree t) ps a).0, s.0)
 last_small is js i w _ a s = absurd s
 
-pub call_small : (is js : List Item) (i : Item) → Takes is js i → (ps : Pieces) → Are is ps → AreSmall (build ps call_node) → (p : Piece) × Is i p × IsSmall (ended p)
+pub call_small : (is js : List Item) (i : Item) → Takes is js i → (ps : Pieces) → Are is ps → AreSmall (build ps call_node) → (p : Piece) × Is i p × IsSmall (whole_call p)
 unfolding build
 call_small is js i w (pieces (tree t ∷ ps)) a s = (tree t, (w (tree t) ps a).0, s.0)
 call_small is js i w (pieces (calling f xs ∷ ps)) a s = (calling f xs, (w (calling f xs) ps a).0, s.0)

@@ -3,7 +3,7 @@ use Rattle.std.proofs.Common.{ℕ, zero, suc, ◌+◌, ◌<◌, ◌≤◌, ◌�
 use Rattle.wl_scan.specs.declared.token.ScanFault.{ScanFault}
 use Rattle.wl_syntax.specs.declared.fault.SyntaxFault.{SyntaxFault}
 use Rattle.wl_syntax.specs.declared.fault.SyntaxFault.TheVariants.{NotUtf8, Scan, Unclosed, Unexpected, TooDeep, Memory}
-use Rattle.wl_syntax.specs.Answers.{IsUnexpected}
+use Rattle.wl_syntax.specs.Parsed.{IsUnexpected}
 use Rattle.wl_syntax.specs.Depth.{depth, max_depth}
 use Rattle.wl_syntax.specs.Laws.{OneAnswer}
 use Rattle.wl_syntax.specs.Reads.{HasTree, Refused, StandsAt}

@@ -216,16 +216,16 @@ met_or : (b : Bool) → (b ≡ false → ⊥) → b ≡ true
 met_or true f = refl
 met_or false f = absurd (f refl)
 
-ended : (ks : List Token) (t : Tree) → Right t → reads t ≡ ks ++ ending ks → finish (run (run (wants []) ks) (ending ks)) ≡ Some t
+ending_parses : (ks : List Token) (t : Tree) → Right t → reads t ≡ ks ++ ending ks → finish (run (run (wants []) ks) (ending ks)) ≡ Some t
 unfolding parse
-ended ks t r e = ap finish (sym (run-append (wants []) ks (ending ks))) ∙ ap parse (sym e) ∙ complete t r
+ending_parses ks t r e = ap finish (sym (run-append (wants []) ks (ending ks))) ∙ ap parse (sym e) ∙ complete t r
 
 viable_alive : (ks : List Token) → Viable ks → IsAlive (run (wants []) ks)
-viable_alive ks v = alive_before (run (wants []) ks) (ending ks) v.0 (ended ks v.0 v.1 v.2)
+viable_alive ks v = alive_before (run (wants []) ks) (ending ks) v.0 (ending_parses ks v.0 v.1 v.2)
 
 viable_met : (ks : List Token) → Viable ks → met ks ≡ true
 unfolding ending
-viable_met ks v = met_or (met ks) (λ e. let f = ended ks v.0 v.1 v.2 in let n = fails_from ks wanted Untagged false [] (wants []) start_shape e in cc)
+viable_met ks v = met_or (met ks) (λ e. let f = ending_parses ks v.0 v.1 v.2 in let n = fails_from ks wanted Untagged false [] (wants []) start_shape e in cc)
 
 alive_viable : (ks : List Token) → IsAlive (run (wants []) ks) → met ks ≡ true → Viable ks
 unfolding ending parse

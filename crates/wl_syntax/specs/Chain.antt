@@ -9,7 +9,7 @@ use Rattle.wl_syntax.specs.declared.chain.Form.TheVariants.{Other, Name, Chain, 
 use Rattle.wl_syntax.specs.declared.chain.Tagged.TheVariants.{TagSet, TagSetDelayed, TagUnset}
 use Rattle.wl_syntax.specs.declared.chain.Link.{Link}
 use Rattle.wl_syntax.specs.declared.chain.Link.TheVariants.{Alone, Starts, GoesOn, Mixes, MixesOn, Nests, NestsOn}
-use Rattle.wl_syntax.specs.Table.{infix_level, infix_name}
+use Rattle.wl_syntax.specs.Table.{semi_level, infix_level, infix_name}
 use Rattle.wl_syntax.specs.Token.{name}
 use Rattle.wl_syntax.specs.Tree.{Tree, leaf, after, between}
 
@@ -20,7 +20,7 @@ abbrev pub is_sameness : ℕ → Bool
 is_sameness n = n == 15
 
 abbrev pub is_chain : ℕ → Bool
-is_chain n = (n == 8) || ((n == 12) || ((n == 13) || ((n == 14) || ((n == 15) || ((n == 17) || ((n == 18) || ((n == 20) || ((n == 22) || (n == 30)))))))))
+is_chain n = (n == 8) || ((n == 12) || ((n == 13) || ((n == 14) || ((n == 15) || ((n == 17) || ((n == 18) || ((n == 20) || ((n == 22) || (n == semi_level)))))))))
 
 -- o behind a chain of p: the same head goes on; comparisons of several kinds make one inequality; samenesses of several
 -- kinds nest to the left

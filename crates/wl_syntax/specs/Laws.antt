@@ -10,21 +10,10 @@ use Rattle.wl_syntax.specs.Depth.{depth, max_depth}
 use Rattle.wl_syntax.specs.Reads.{HasTree, IsReadAs, Refused}
 use Rattle.wl_syntax.specs.Token.{Token}
 use Rattle.wl_syntax.specs.Tree.{Tree, Right, reads}
-use Rattle.wl_syntax.specs.Machine.{wants, run, parse, IsAlive}
-use Rattle.wl_syntax.specs.Ending.{Viable}
-use Rattle.wl_syntax.specs.Tags.{met}
 
 -- Two right trees that read as the same tokens are the same tree.
 abbrev pub OneReading : Type 0
 OneReading = (t u : Tree) → Right t → Right u → reads t ≡ reads u → t ≡ u
-
--- The machine gives the right tree that reads as the tokens, wherever there is one.
-abbrev pub ParseIs : Type 0
-ParseIs = (ks : List Token) (t : Tree) → (parse ks ≡ Some t) ↔ (Right t × (reads t ≡ ks))
-
--- A list is viable exactly where the machine is alive behind it and each level is met.
-abbrev pub ViableIs : Type 0
-ViableIs = (ks : List Token) → Viable ks ↔ (IsAlive (run (wants []) ks) × (met ks ≡ true))
 
 -- A cell has one tree at most; one with a tree that isn't too deep is not refused; and each other one is for one cause. Want
 -- of memory apart.
@@ -47,33 +36,27 @@ SmallExpressions = (bytes : List ℕ) (t : Tree) → length bytes ≤ 131072 →
 
 -- worked cells
 
-abbrev pub name : List ℕ → full.Tree
-name s = full.symbol s
-
-abbrev pub number : ℤ → full.Tree
-number z = whole_number z
-
 -- `x -> y & /@ {1}`: a postfix operator that binds loosely ends all that is open before a tight infix one
 abbrev pub LoosePostfix : Type 0
 LoosePostfix =
     IsReadAs (codes "x -> y & /@ {1}")
-    (named (codes "Map") (named (codes "Function") (named (codes "Rule") (name (codes "x") ∷ name (codes "y") ∷ []) ∷ []) ∷ named (codes "List") (number (pos 1) ∷ []) ∷ []))
+    (named (codes "Map") (named (codes "Function") (named (codes "Rule") (full.symbol (codes "x") ∷ full.symbol (codes "y") ∷ []) ∷ []) ∷ named (codes "List") (whole_number (pos 1) ∷ []) ∷ []))
 
 -- `a < b <= c`: comparisons of two kinds
 abbrev pub MixedComparison : Type 0
-MixedComparison = IsReadAs (codes "a < b <= c") (named (codes "Inequality") (name (codes "a") ∷ name (codes "Less") ∷ name (codes "b") ∷ name (codes "LessEqual") ∷ name (codes "c") ∷ []))
+MixedComparison = IsReadAs (codes "a < b <= c") (named (codes "Inequality") (full.symbol (codes "a") ∷ full.symbol (codes "Less") ∷ full.symbol (codes "b") ∷ full.symbol (codes "LessEqual") ∷ full.symbol (codes "c") ∷ []))
 
 -- `a - 2 b` and `a - (2)`: negation turns the number that a product begins with, and stops at parentheses
 abbrev pub Negations : Type 0
 Negations =
-    IsReadAs (codes "a - 2 b") (named (codes "Plus") (name (codes "a") ∷ named (codes "Times") (number (negsuc 1) ∷ name (codes "b") ∷ []) ∷ []))
-    × IsReadAs (codes "a - (2)") (named (codes "Plus") (name (codes "a") ∷ named (codes "Times") (number (negsuc 0) ∷ number (pos 2) ∷ []) ∷ []))
+    IsReadAs (codes "a - 2 b") (named (codes "Plus") (full.symbol (codes "a") ∷ named (codes "Times") (whole_number (negsuc 1) ∷ full.symbol (codes "b") ∷ []) ∷ []))
+    × IsReadAs (codes "a - (2)") (named (codes "Plus") (full.symbol (codes "a") ∷ named (codes "Times") (whole_number (negsuc 0) ∷ whole_number (pos 2) ∷ []) ∷ []))
 
 -- `g/:a=. x=5` has a tree, though what it begins with, `g/:a=. x`, is refused below
 abbrev pub DottedTag : Type 0
 DottedTag =
     IsReadAs (codes "g/:a=. x=5")
-    (named (codes "TagSet") (name (codes "g") ∷ named (codes "Times") (named (codes "Unset") (name (codes "a") ∷ []) ∷ name (codes "x") ∷ []) ∷ number (pos 5) ∷ []))
+    (named (codes "TagSet") (full.symbol (codes "g") ∷ named (codes "Times") (named (codes "Unset") (full.symbol (codes "a") ∷ []) ∷ full.symbol (codes "x") ∷ []) ∷ whole_number (pos 5) ∷ []))
 
 -- a sign that can't stand there; the beginning of a definition for a tag; and one that has no such end
 abbrev pub Refusals : Type 0

@@ -42,13 +42,13 @@ with_element (listing xs) x = listing (more xs x)
 abbrev pub AddsElement : Item → Item → Item → Type 0
 AddsElement i j k = (p : Piece) (x : Tree) → Is i p → Is j (tree x) → Is k (with_element p x)
 
-abbrev pub ended : Piece → Tree
-ended (tree f) = call f none
-ended (calling f xs) = call f xs
-ended (listing xs) = brace xs
+abbrev pub whole_call : Piece → Tree
+whole_call (tree f) = call f none
+whole_call (calling f xs) = call f xs
+whole_call (listing xs) = brace xs
 
 abbrev pub EndsCall : Item → Item → Type 0
-EndsCall i j = (p : Piece) → Is i p → Is j (tree (ended p))
+EndsCall i j = (p : Piece) → Is i p → Is j (tree (whole_call p))
 
 abbrev pub EndsPart : Item → Item → Type 0
 EndsPart i j = (f : Tree) (xs : Elems) (t : Tree) → Is i (calling f (more xs t)) → Is j (tree (part f xs t))

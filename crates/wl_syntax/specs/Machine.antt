@@ -6,7 +6,7 @@ use Rattle.wl_syntax.specs.declared.operator.Prefix.{Prefix}
 use Rattle.wl_syntax.specs.declared.operator.Postfix.{Postfix}
 use Rattle.wl_syntax.specs.Token.{name, text, Token}
 use Rattle.wl_syntax.specs.Token as token
-use Rattle.wl_syntax.specs.Table.{infix_level, prefix_level, postfix_level, takes, leaves, Role, joins, ends, parts, nothing, role, prefix_of}
+use Rattle.wl_syntax.specs.Table.{square_level, semi_level, end_level, infix_level, prefix_level, postfix_level, takes, leaves, Role, joins, ends, parts, nothing, role, prefix_of}
 use Rattle.wl_syntax.specs.Tree.{Tree, leaf, paren, brace, call, part, before, after, last, between, Elems, none, more, is_name, is_definition}
 
 pub data Open : Type 0 where
@@ -143,17 +143,17 @@ started _ k = dead
 unfoldable pub with_role : List Open → Tree → Role → State
 with_role s x (joins o) = join o (close (infix_level o) s x)
 with_role s x (ends o) = end_with o (close (postfix_level o) s x)
-with_role s x parts = part_with (close 30 s x)
+with_role s x parts = part_with (close semi_level s x)
 with_role s x nothing = dead
 
 -- a token behind an operand
 unfoldable pub go_on : List Open → Tree → Token → State
 go_on s x (token.sign g) = with_role s x (role g)
-go_on s x token.open_square = open_square (close 3 s x)
-go_on s x token.close_round = close_round (close 31 s x)
-go_on s x token.close_square = close_square (close 31 s x)
-go_on s x token.close_brace = close_brace (close 31 s x)
-go_on s x token.comma = next_element (close 31 s x)
+go_on s x token.open_square = open_square (close square_level s x)
+go_on s x token.close_round = close_round (close end_level s x)
+go_on s x token.close_square = close_square (close end_level s x)
+go_on s x token.close_brace = close_brace (close end_level s x)
+go_on s x token.comma = next_element (close end_level s x)
 go_on s x k = started (join Beside (close (infix_level Beside) s x)) k
 
 -- the same as functions of a state
@@ -163,7 +163,7 @@ beside k st = started (join Beside (closed (infix_level Beside) st)) k
 unfoldable pub behind : Role → State → State
 behind (joins o) st = join o (closed (infix_level o) st)
 behind (ends o) st = end_with o (closed (postfix_level o) st)
-behind parts st = part_with (closed 30 st)
+behind parts st = part_with (closed semi_level st)
 behind nothing st = dead
 
 unfoldable pub brace_opened : List Open → State
@@ -193,8 +193,8 @@ finished (has [] x) = Some x
 finished _ = None
 
 unfoldable pub finish : State → Option Tree
-finish (has s x) = finished (close 31 s x)
-finish (semi s x) = finished (close 31 s (last x))
+finish (has s x) = finished (close end_level s x)
+finish (semi s x) = finished (close end_level s (last x))
 finish _ = None
 
 unfoldable pub parse : List Token → Option Tree

@@ -8,7 +8,7 @@ use Rattle.wl_expr.specs.Tree as full
 use Rattle.wl_scan.specs.Tokens.{Lexeme, scanned}
 use Rattle.wl_syntax.specs.declared.fault.SyntaxFault.{SyntaxFault}
 use Rattle.wl_syntax.specs.declared.fault.SyntaxFault.TheVariants.{NotUtf8, Scan, Unclosed, Unexpected, TooDeep, Memory}
-use Rattle.wl_syntax.specs.Answers.{IsTreeOf, IsUnclosed, IsUnexpected}
+use Rattle.wl_syntax.specs.Parsed.{IsTreeOf, IsUnclosed, IsUnexpected}
 use Rattle.wl_syntax.specs.Depth.{depth, max_depth}
 use Rattle.wl_syntax.specs.Lexer.{tokens}
 use Rattle.wl_syntax.specs.Lower.{lower}

@@ -10,6 +10,18 @@ use Rattle.wl_syntax.specs.declared.operator.Postfix.TheVariants.{Increment, Dec
 use Rattle.wl_syntax.specs.declared.operator.Sign.{Sign}
 use Rattle.wl_syntax.specs.declared.operator.Sign.TheVariants as sign
 
+-- a call and a part, `f[a]` and `e[[i]]`
+abbrev pub square_level : ℕ
+square_level = 3
+
+-- the two kinds of `;`
+abbrev pub semi_level : ℕ
+semi_level = 30
+
+-- what ends an element, a bracket or the text: looser than each operator
+abbrev pub end_level : ℕ
+end_level = 31
+
 unfoldable pub infix_level : Infix → ℕ
 infix_level Message = 1
 infix_level PatternTest = 2
@@ -52,7 +64,7 @@ infix_level SetDelayed = 29
 infix_level UpSet = 29
 infix_level UpSetDelayed = 29
 infix_level Tag = 29
-infix_level Semi = 30
+infix_level Semi = semi_level
 
 unfoldable pub prefix_level : Prefix → ℕ
 prefix_level PreIncrement = 4
@@ -68,18 +80,6 @@ postfix_level Repeated = 19
 postfix_level RepeatedNull = 19
 postfix_level Function = 27
 postfix_level Unset = 29
-
--- a call and a part, `f[a]` and `e[[i]]`
-abbrev pub square_level : ℕ
-square_level = 3
-
--- the two kinds of `;`
-abbrev pub semi_level : ℕ
-semi_level = 30
-
--- what ends an element, a bracket or the text: looser than each operator
-abbrev pub end_level : ℕ
-end_level = 31
 
 -- At equal levels these take the equal one on their right side, these on their left, and those of levels 1 and 2 on neither.
 unfoldable pub leans_right : ℕ → Bool

@@ -9,7 +9,7 @@ use Rattle.wl_syntax.specs.declared.operator.Sign.{Sign}
 use Rattle.wl_syntax.specs.declared.operator.Sign.TheVariants as sign
 use Rattle.wl_syntax.specs.Token.{Atom, name, text, Token}
 use Rattle.wl_syntax.specs.Token as token
-use Rattle.wl_syntax.specs.Table.{infix_level, prefix_level, postfix_level, takes, leaves, infix_sign, prefix_sign, postfix_sign}
+use Rattle.wl_syntax.specs.Table.{square_level, semi_level, infix_level, prefix_level, postfix_level, takes, leaves, infix_sign, prefix_sign, postfix_sign}
 
 -- last t is t with a `;` that nothing follows.
 mutual
@@ -66,9 +66,9 @@ right_edge _ = []
 unfoldable pub left_edge : Tree → List ℕ
 left_edge (between l o _) = infix_level o ∷ left_edge l
 left_edge (after l o) = postfix_level o ∷ left_edge l
-left_edge (last l) = 30 ∷ left_edge l
-left_edge (call f _) = 3 ∷ left_edge f
-left_edge (part f _ _) = 3 ∷ left_edge f
+left_edge (last l) = semi_level ∷ left_edge l
+left_edge (call f _) = square_level ∷ left_edge f
+left_edge (part f _ _) = square_level ∷ left_edge f
 left_edge _ = []
 
 -- whether the tree begins with an atom, `(` or `{`
@@ -131,11 +131,11 @@ unfoldable mutual
   Right (leaf _) = Unit {0}
   Right (paren t) = Right t
   Right (brace xs) = RightElems xs
-  Right (call f xs) = Right f × TakesLeft 3 f × RightElems xs
-  Right (part f xs t) = Right f × TakesLeft 3 f × RightElems xs × Right t
+  Right (call f xs) = Right f × TakesLeft square_level f × RightElems xs
+  Right (part f xs t) = Right f × TakesLeft square_level f × RightElems xs × Right t
   Right (before o r) = Right r × TakesRight (prefix_level o) r
   Right (after l o) = Right l × TakesLeft (postfix_level o) l
-  Right (last l) = Right l × TakesLeft 30 l
+  Right (last l) = Right l × TakesLeft semi_level l
   Right (between l o r) = Right l × Right r × TakesLeft (infix_level o) l × TakesRight (infix_level o) r × Asks o l r
 
   pub RightElems : Elems → Type 0

@@ -57,9 +57,9 @@ fn index(alloc: Global, digits: &str) -> Result<Expr, Memory>
     ensures { IfOk result (λ e. e ≡ unstamped (atoms.index digits.now)) }
 {
     if digits.is_empty() {
-        return Ok(whole_number(alloc, 1)?);
+        return whole_number(alloc, 1);
     }
-    Ok(number(alloc, digits)?)
+    number(alloc, digits)
 }
 
 fn slot(alloc: Global, token: &str) -> Result<Expr, Memory>
@@ -201,11 +201,11 @@ pub(crate) fn atom_expr(alloc: Global, atom: Atom<'_>) -> Result<Expr, Memory>
     ensures { IfOk result (λ e. e ≡ unstamped (atoms.atom_tree (atom_of atom.entry))) }
 {
     match atom {
-        Atom::Number(digits) => Ok(number(alloc, digits)?),
-        Atom::Name(name) => Ok(symbol(alloc, name)?),
-        Atom::Pattern(text) => Ok(pattern(alloc, text)?),
-        Atom::Slot(text) => Ok(slot(alloc, text)?),
-        Atom::Out(text) => Ok(output(alloc, text)?),
-        Atom::Text(token) => Ok(string(alloc, token)?),
+        Atom::Number(digits) => number(alloc, digits),
+        Atom::Name(name) => symbol(alloc, name),
+        Atom::Pattern(text) => pattern(alloc, text),
+        Atom::Slot(text) => slot(alloc, text),
+        Atom::Out(text) => output(alloc, text),
+        Atom::Text(token) => string(alloc, token),
     }
 }

@@ -4,7 +4,7 @@ ghost use Rattle.wl_syntax.specs.Built.{Are, Is, IsGroup, Piece, Pieces, build, 
 ghost use Rattle.wl_syntax.specs.Chain as chains;
 ghost use Rattle.wl_syntax.specs.Depth as depths;
 ghost use Rattle.wl_syntax.specs.Depth.{max_depth};
-ghost use Rattle.wl_syntax.specs.Lowered.{IsOne, Wraps, Joins, JoinsGroups, AddsElement, AddsTo, Begins, EndsCall, EndsPart, Takes, Lowers, joined_pairs, with_element, ended};
+ghost use Rattle.wl_syntax.specs.Lowered.{IsOne, Wraps, Joins, JoinsGroups, AddsElement, AddsTo, Begins, EndsCall, EndsPart, Takes, Lowers, joined_pairs, with_element, whole_call};
 ghost use Rattle.wl_syntax.specs.Polish.{atom_of, node_of, polish};
 ghost use Rattle.wl_syntax.specs.Small.{IsSmall, IsSmallPiece, AreSmall, FitsItem, FitItems, FitGroups};
 ghost use Rattle.wl_syntax.specs.Table.{infix_level};
@@ -104,7 +104,7 @@ fn paren(alloc: Global, item: Item) -> Result<Item, Memory>
         return Ok(Item::Deep);
     };
     let expr = whole(alloc, group.form, &group.items)?;
-    Ok(one(alloc, Form::Other, expr, depth)?)
+    one(alloc, Form::Other, expr, depth)
 }
 
 fn before(alloc: Global, operator: Prefix, item: Item) -> Result<Item, Memory>
@@ -118,7 +118,7 @@ fn before(alloc: Global, operator: Prefix, item: Item) -> Result<Item, Memory>
         return Ok(Item::Deep);
     };
     let expr = prefixed(alloc, operator, group.form, group.reach, &group.items)?;
-    Ok(one(alloc, Form::Other, expr, depth)?)
+    one(alloc, Form::Other, expr, depth)
 }
 
 fn after_form(operator: Postfix) -> Form
@@ -208,7 +208,7 @@ fn between(alloc: Global, operator: Infix, left: Item, right: Item) -> Result<It
     let Item::Whole(right) = right else {
         return Ok(Item::Deep);
     };
-    Ok(join(alloc, operator, left, right)?)
+    join(alloc, operator, left, right)
 }
 
 fn join(alloc: Global, operator: Infix, left: Group, right: Group) -> Result<Item, Memory>
@@ -289,14 +289,14 @@ fn element(alloc: Global, below: Item, top: Item) -> Result<Item, Memory>
         return Ok(Item::Deep);
     };
     match below {
-        Item::Whole(head) => Ok(begin_call(alloc, head, top)?),
-        Item::Args(args) => Ok(add_element(alloc, args, top)?),
+        Item::Whole(head) => begin_call(alloc, head, top),
+        Item::Args(args) => add_element(alloc, args, top),
         Item::Deep => Ok(Item::Deep),
     }
 }
 
 fn call(alloc: Global, item: Item) -> Result<Item, Memory>
-    requires { (p : Piece) × Is item p × IsSmall (ended p) }
+    requires { (p : Piece) × Is item p × IsSmall (whole_call p) }
     ensures { IfOk result (λ made. EndsCall item made) }
 {
     match item {

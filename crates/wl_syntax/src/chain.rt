@@ -3,11 +3,11 @@ ghost use Rattle.std.specs.Prelude.{◌≡◌};
 ghost use Rattle.wl_syntax.specs.Chain as chain;
 ghost use Rattle.wl_syntax.specs.Table.{infix_level as level_of};
 
-use crate::operator::{Infix, infix_level, infix_name};
+use crate::operator::{Infix, SEMI_LEVEL, infix_level, infix_name};
 
 /// The definition that a `/:` turns into one for its tag.
 #[derive(Clone, Copy)]
-pub enum Tagged {
+pub(crate) enum Tagged {
     TagSet,
     TagSetDelayed,
     TagUnset,
@@ -16,7 +16,7 @@ pub enum Tagged {
 /// What stands at the top of a tree, without parentheses: a chain with its last operator, comparisons of several kinds,
 /// nested pairs of `===` and `=!=`, a definition, a name, or anything else.
 #[derive(Clone, Copy)]
-pub enum Form {
+pub(crate) enum Form {
     Other,
     Name,
     Chain(Infix),
@@ -29,7 +29,7 @@ pub enum Form {
 /// comparisons with a chain of one kind or with one that is mixed already; it nests a chain of samenesses, or goes on with
 /// one that is nested.
 #[derive(Clone, Copy)]
-pub enum Link {
+pub(crate) enum Link {
     Alone,
     Starts,
     GoesOn,
@@ -42,13 +42,10 @@ pub enum Link {
 fn is_chain(level: u8) -> bool
     ensures { result ≡ chain.is_chain level }
 {
-    level == 8
-        || (level == 12
-            || (level == 13
-                || (level == 14
-                    || (level == 15
-                        || (level == 17
-                            || (level == 18 || (level == 20 || (level == 22 || level == 30))))))))
+    matches!(
+        level,
+        8 | 12 | 13 | 14 | 15 | 17 | 18 | 20 | 22 | SEMI_LEVEL
+    )
 }
 
 fn is_comparison(operator: Infix) -> bool
@@ -141,22 +138,11 @@ pub(crate) fn linked(operator: Infix, link: Link) -> Form
 pub(crate) fn continues(link: Link) -> bool
     ensures { result ≡ chain.continues link }
 {
-    match link {
-        Link::Alone => false,
-        Link::Starts => false,
-        Link::GoesOn => true,
-        Link::Mixes(_) => true,
-        Link::MixesOn => true,
-        Link::Nests(_) => false,
-        Link::NestsOn => false,
-    }
+    matches!(link, Link::GoesOn | Link::Mixes(_) | Link::MixesOn)
 }
 
 pub(crate) fn nests(link: Link) -> bool
     ensures { result ≡ chain.nests link }
 {
-    match link {
-        Link::Nests(_) => true,
-        _ => false,
-    }
+    matches!(link, Link::Nests(_))
 }

@@ -1,19 +1,9 @@
 //! Laws of the grammar, each the contract of a function without parameters.
-ghost use Rattle.wl_syntax.specs.Laws.{OneReading, ParseIs, ViableIs, OneAnswer, SmallExpressions, WorkedCells};
+ghost use Rattle.wl_syntax.specs.Laws.{OneReading, OneAnswer, SmallExpressions, WorkedCells};
 
 /// Two right trees that read as the same tokens are the same tree.
 pub fn one_reading()
     ensures { OneReading }
-{}
-
-/// The machine gives the right tree that reads as the tokens, wherever there is one.
-pub fn parse_is()
-    ensures { ParseIs }
-{}
-
-/// A list is viable exactly where the machine is alive behind it and each level is met.
-pub fn viable_is()
-    ensures { ViableIs }
 {}
 
 /// A cell has one answer at most, want of memory apart.

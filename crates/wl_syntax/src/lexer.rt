@@ -9,74 +9,68 @@ use crate::token::{Atom, Token};
 use std::alloc::{AllocError, Global};
 use wl_scan::{Kind, Token as Lexeme};
 
-/// This token where the text is spelled so, and else the other one.
-fn pick(text: &str, spelling: &str, token: Token<'static>, other: Token<'static>) -> Token<'static>
-    ensures { token_of result ≡ lexer.picked text.now spelling.now (token_of token.entry) (token_of other.entry) }
-{
-    if text == spelling { token } else { other }
-}
-
 /// The token that a sign is.
 fn sign_token(text: &str) -> Token<'static>
-    ensures { token_of result ≡ lexer.sign_token text.now }
+    ensures { token_of result ≡ lexer.looked_up lexer.signs text.now }
 {
-    let other = Token::Sign(Sign::Unused);
-    let other = pick(text, "=.", Token::Sign(Sign::EqualsDot), other);
-    let other = pick(text, "&", Token::Sign(Sign::Ampersand), other);
-    let other = pick(text, "...", Token::Sign(Sign::DotDotDot), other);
-    let other = pick(text, "..", Token::Sign(Sign::DotDot), other);
-    let other = pick(text, "!", Token::Sign(Sign::Bang), other);
-    let other = pick(text, "--", Token::Sign(Sign::MinusMinus), other);
-    let other = pick(text, "++", Token::Sign(Sign::PlusPlus), other);
-    let other = pick(text, ";", Token::Sign(Sign::Semicolon), other);
-    let other = pick(text, "/:", Token::Sign(Sign::SlashColon), other);
-    let other = pick(text, "^:=", Token::Sign(Sign::CaretColonEquals), other);
-    let other = pick(text, "^=", Token::Sign(Sign::CaretEquals), other);
-    let other = pick(text, ":=", Token::Sign(Sign::ColonEquals), other);
-    let other = pick(text, "=", Token::Sign(Sign::Equals), other);
-    let other = pick(text, "//", Token::Sign(Sign::SlashSlash), other);
-    let other = pick(text, "/=", Token::Sign(Sign::SlashEquals), other);
-    let other = pick(text, "*=", Token::Sign(Sign::StarEquals), other);
-    let other = pick(text, "-=", Token::Sign(Sign::DashEquals), other);
-    let other = pick(text, "+=", Token::Sign(Sign::PlusEquals), other);
-    let other = pick(text, "//.", Token::Sign(Sign::SlashSlashDot), other);
-    let other = pick(text, "/.", Token::Sign(Sign::SlashDot), other);
-    let other = pick(text, ":>", Token::Sign(Sign::ColonGreater), other);
-    let other = pick(text, "->", Token::Sign(Sign::DashGreater), other);
-    let other = pick(text, "/;", Token::Sign(Sign::SlashSemicolon), other);
-    let other = pick(text, "~~", Token::Sign(Sign::TildeTilde), other);
-    let other = pick(text, ":", Token::Sign(Sign::Colon), other);
-    let other = pick(text, "|", Token::Sign(Sign::Bar), other);
-    let other = pick(text, "||", Token::Sign(Sign::BarBar), other);
-    let other = pick(text, "&&", Token::Sign(Sign::AmpersandAmpersand), other);
-    let other = pick(text, "=!=", Token::Sign(Sign::EqualsBangEquals), other);
-    let other = pick(text, "===", Token::Sign(Sign::EqualsEqualsEquals), other);
-    let other = pick(text, ">=", Token::Sign(Sign::GreaterEquals), other);
-    let other = pick(text, ">", Token::Sign(Sign::Greater), other);
-    let other = pick(text, "<=", Token::Sign(Sign::LessEquals), other);
-    let other = pick(text, "<", Token::Sign(Sign::Less), other);
-    let other = pick(text, "!=", Token::Sign(Sign::BangEquals), other);
-    let other = pick(text, "==", Token::Sign(Sign::EqualsEquals), other);
-    let other = pick(text, "-", Token::Sign(Sign::Dash), other);
-    let other = pick(text, "+", Token::Sign(Sign::Plus), other);
-    let other = pick(text, "*", Token::Sign(Sign::Star), other);
-    let other = pick(text, "/", Token::Sign(Sign::Slash), other);
-    let other = pick(text, "^", Token::Sign(Sign::Caret), other);
-    let other = pick(text, "<>", Token::Sign(Sign::LessGreater), other);
-    let other = pick(text, "@@@", Token::Sign(Sign::AtAtAt), other);
-    let other = pick(text, "@@", Token::Sign(Sign::AtAt), other);
-    let other = pick(text, "/@", Token::Sign(Sign::SlashAt), other);
-    let other = pick(text, "@", Token::Sign(Sign::At), other);
-    let other = pick(text, "?", Token::Sign(Sign::Question), other);
-    let other = pick(text, "::", Token::Sign(Sign::ColonColon), other);
-    let other = pick(text, ",", Token::Comma, other);
-    let other = pick(text, "}", Token::CloseBrace, other);
-    let other = pick(text, "{", Token::OpenBrace, other);
-    let other = pick(text, "]", Token::CloseSquare, other);
-    let other = pick(text, "[", Token::OpenSquare, other);
-    let other = pick(text, ")", Token::CloseRound, other);
-    let other = pick(text, "(", Token::OpenRound, other);
-    other
+    match text {
+        "(" => Token::OpenRound,
+        ")" => Token::CloseRound,
+        "[" => Token::OpenSquare,
+        "]" => Token::CloseSquare,
+        "{" => Token::OpenBrace,
+        "}" => Token::CloseBrace,
+        "," => Token::Comma,
+        "::" => Token::Sign(Sign::ColonColon),
+        "?" => Token::Sign(Sign::Question),
+        "@" => Token::Sign(Sign::At),
+        "/@" => Token::Sign(Sign::SlashAt),
+        "@@" => Token::Sign(Sign::AtAt),
+        "@@@" => Token::Sign(Sign::AtAtAt),
+        "<>" => Token::Sign(Sign::LessGreater),
+        "^" => Token::Sign(Sign::Caret),
+        "/" => Token::Sign(Sign::Slash),
+        "*" => Token::Sign(Sign::Star),
+        "+" => Token::Sign(Sign::Plus),
+        "-" => Token::Sign(Sign::Dash),
+        "==" => Token::Sign(Sign::EqualsEquals),
+        "!=" => Token::Sign(Sign::BangEquals),
+        "<" => Token::Sign(Sign::Less),
+        "<=" => Token::Sign(Sign::LessEquals),
+        ">" => Token::Sign(Sign::Greater),
+        ">=" => Token::Sign(Sign::GreaterEquals),
+        "===" => Token::Sign(Sign::EqualsEqualsEquals),
+        "=!=" => Token::Sign(Sign::EqualsBangEquals),
+        "&&" => Token::Sign(Sign::AmpersandAmpersand),
+        "||" => Token::Sign(Sign::BarBar),
+        "|" => Token::Sign(Sign::Bar),
+        ":" => Token::Sign(Sign::Colon),
+        "~~" => Token::Sign(Sign::TildeTilde),
+        "/;" => Token::Sign(Sign::SlashSemicolon),
+        "->" => Token::Sign(Sign::DashGreater),
+        ":>" => Token::Sign(Sign::ColonGreater),
+        "/." => Token::Sign(Sign::SlashDot),
+        "//." => Token::Sign(Sign::SlashSlashDot),
+        "+=" => Token::Sign(Sign::PlusEquals),
+        "-=" => Token::Sign(Sign::DashEquals),
+        "*=" => Token::Sign(Sign::StarEquals),
+        "/=" => Token::Sign(Sign::SlashEquals),
+        "//" => Token::Sign(Sign::SlashSlash),
+        "=" => Token::Sign(Sign::Equals),
+        ":=" => Token::Sign(Sign::ColonEquals),
+        "^=" => Token::Sign(Sign::CaretEquals),
+        "^:=" => Token::Sign(Sign::CaretColonEquals),
+        "/:" => Token::Sign(Sign::SlashColon),
+        ";" => Token::Sign(Sign::Semicolon),
+        "++" => Token::Sign(Sign::PlusPlus),
+        "--" => Token::Sign(Sign::MinusMinus),
+        "!" => Token::Sign(Sign::Bang),
+        ".." => Token::Sign(Sign::DotDot),
+        "..." => Token::Sign(Sign::DotDotDot),
+        "&" => Token::Sign(Sign::Ampersand),
+        "=." => Token::Sign(Sign::EqualsDot),
+        _ => Token::Sign(Sign::Unused),
+    }
 }
 
 /// The grammar's token.

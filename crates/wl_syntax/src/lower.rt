@@ -22,7 +22,7 @@ pub(crate) fn whole_number(alloc: Global, n: i128) -> Result<Expr, Memory>
     ensures { IfOk result (λ e. e ≡ unstamped (whole_number n)) }
 {
     match Num::int(n) {
-        Some(number) => Ok(Expr::num(alloc, number)?),
+        Some(number) => Expr::num(alloc, number),
         None => unreachable!(),
     }
 }
@@ -33,11 +33,11 @@ pub(crate) fn whole(alloc: Global, form: Form, items: &[Expr]) -> Result<Expr, M
     ensures { IfOk result (λ e. (es : List full.Tree) → items.now ≡ unstamped_all es → e ≡ unstamped (lower.whole form es)) }
 {
     match form {
-        Form::Chain(operator) => Ok(named(alloc, infix_name(operator), items)?),
-        Form::Inequality => Ok(named(alloc, "Inequality", items)?),
+        Form::Chain(operator) => named(alloc, infix_name(operator), items),
+        Form::Inequality => named(alloc, "Inequality", items),
         _ => match items.first() {
-            Some(item) => Ok(item.copy()?),
-            None => Ok(text(alloc, "")?),
+            Some(item) => item.copy(),
+            None => text(alloc, ""),
         },
     }
 }
@@ -185,8 +185,8 @@ fn operand_of(
     ensures { IfOk result (λ e. (es : List full.Tree) → items.now ≡ unstamped_all es → e ≡ unstamped (lower.operand_of operator form reach es)) }
 {
     match operator {
-        Infix::Minus => Ok(negative(alloc, form, reach, items)?),
-        _ => Ok(whole(alloc, form, items)?),
+        Infix::Minus => negative(alloc, form, reach, items),
+        _ => whole(alloc, form, items),
     }
 }
 
@@ -194,8 +194,8 @@ fn as_text(alloc: Global, e: &Expr) -> Result<Expr, Memory>
     ensures { IfOk result (λ r. (t : full.Tree) → e.now ≡ unstamped t → r ≡ unstamped (lower.as_text t)) }
 {
     match e.view() {
-        Look::Symbol(name) => Ok(text(alloc, name)?),
-        _ => Ok(e.copy()?),
+        Look::Symbol(name) => text(alloc, name),
+        _ => e.copy(),
     }
 }
 
@@ -315,8 +315,8 @@ fn nested(alloc: Global, sameness: Infix, operands: &[Expr]) -> Result<Expr, Mem
     ensures { IfOk result (λ e. (es : List full.Tree) → operands.now ≡ unstamped_all es → e ≡ unstamped (lower.nested sameness es)) }
 {
     match operands.split_first() {
-        Some((first, rest)) => Ok(nested_after(alloc, sameness, first.copy()?, rest)?),
-        None => Ok(text(alloc, "")?),
+        Some((first, rest)) => nested_after(alloc, sameness, first.copy()?, rest),
+        None => text(alloc, ""),
     }
 }
 
@@ -438,11 +438,11 @@ pub(crate) fn last(alloc: Global, link: Link, form: Form, items: Vec<Expr>) -> R
     match link {
         Link::GoesOn => {
             let all = pushed(items, null)?;
-            Ok(named(alloc, "CompoundExpression", &all)?)
+            named(alloc, "CompoundExpression", &all)
         }
         _ => {
             let first = whole(alloc, form, &items)?;
-            Ok(named(alloc, "CompoundExpression", &[first, null])?)
+            named(alloc, "CompoundExpression", &[first, null])
         }
     }
 }

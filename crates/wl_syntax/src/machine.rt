@@ -10,7 +10,7 @@ mod brackets;
 mod operands;
 mod operators;
 
-use crate::operator::{Infix, Prefix};
+use crate::operator::{END_LEVEL, Infix, Prefix};
 use crate::token::{Node, Token};
 use std::alloc::{AllocError, Global};
 
@@ -49,13 +49,10 @@ pub(crate) struct Machine<'a> {
 fn ends_element(token: Token<'_>) -> bool
     ensures { result ≡ spec.ends_element (token_of token.entry) }
 {
-    match token {
-        Token::CloseRound => true,
-        Token::CloseSquare => true,
-        Token::CloseBrace => true,
-        Token::Comma => true,
-        _ => false,
-    }
+    matches!(
+        token,
+        Token::CloseRound | Token::CloseSquare | Token::CloseBrace | Token::Comma
+    )
 }
 
 impl<'a> Machine<'a> {
@@ -144,7 +141,7 @@ impl<'a> Machine<'a> {
         requires { self.old.standing ≡ standing.Has }
         ensures { IfOk result (λ done. Finishes self.old self.new done) }
     {
-        self.close(31)?;
+        self.close(END_LEVEL)?;
         let Standing::Has = self.standing else {
             return Ok(false);
         };

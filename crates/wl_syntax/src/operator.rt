@@ -5,7 +5,7 @@ ghost use Rattle.wl_syntax.specs.RoleOf.{role_of};
 
 /// Operators between two operands. `Beside` has no sign: it is a juxtaposition.
 #[derive(Clone, Copy, Debug, PartialEq, Eq)]
-pub enum Infix {
+pub(crate) enum Infix {
     Message,
     PatternTest,
     Of,
@@ -52,7 +52,7 @@ pub enum Infix {
 
 /// Operators before an operand.
 #[derive(Clone, Copy, Debug, PartialEq, Eq)]
-pub enum Prefix {
+pub(crate) enum Prefix {
     PreIncrement,
     PreDecrement,
     Negate,
@@ -61,7 +61,7 @@ pub enum Prefix {
 
 /// Operators behind an operand, but for a last `;`.
 #[derive(Clone, Copy, Debug, PartialEq, Eq)]
-pub enum Postfix {
+pub(crate) enum Postfix {
     Increment,
     Decrement,
     Factorial,
@@ -73,7 +73,7 @@ pub enum Postfix {
 
 /// Signs but for the brackets and the comma. `Unused` stands for those of no operator, as `;;`.
 #[derive(Clone, Copy, Debug, PartialEq, Eq)]
-pub enum Sign {
+pub(crate) enum Sign {
     ColonColon,
     Question,
     At,
@@ -127,12 +127,21 @@ pub enum Sign {
 
 /// What a sign is behind an operand. `;` parts: the next token says whether it is infix or postfix.
 #[derive(Clone, Copy)]
-pub enum SignRole {
+pub(crate) enum SignRole {
     Joins(Infix),
     Ends(Postfix),
     Parts,
     Nothing,
 }
+
+/// The level of a call and of a part, `f[a]` and `e[[i]]`.
+pub(crate) const SQUARE_LEVEL: u8 = 3;
+
+/// The level of both kinds of `;`.
+pub(crate) const SEMI_LEVEL: u8 = 30;
+
+/// What ends an element, a bracket or the text is looser than each operator.
+pub(crate) const END_LEVEL: u8 = 31;
 
 #[tactic(auto, unfolding(crate::specs::Table::infix_level))]
 pub(crate) fn infix_level(operator: Infix) -> u8
@@ -180,7 +189,7 @@ pub(crate) fn infix_level(operator: Infix) -> u8
         Infix::UpSet => 29,
         Infix::UpSetDelayed => 29,
         Infix::Tag => 29,
-        Infix::Semi => 30,
+        Infix::Semi => SEMI_LEVEL,
     }
 }
 
@@ -215,9 +224,7 @@ pub(crate) fn postfix_level(operator: Postfix) -> u8
 fn leans_right(level: u8) -> bool
     ensures { result ≡ table.leans_right level }
 {
-    level == 4
-        || (level == 5
-            || (level == 6 || (level == 9 || (level == 24 || (level == 26 || level == 29)))))
+    matches!(level, 4 | 5 | 6 | 9 | 24 | 26 | 29)
 }
 
 #[tactic(auto, unfolding(crate::specs::Table::leans_left))]

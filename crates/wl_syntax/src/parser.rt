@@ -1,7 +1,7 @@
 //! The one right tree of a list of tokens, or why there is none.
 ghost use Rattle.std.specs.Prelude.{◌≡◌, map, Vec};
-ghost use Rattle.wl_syntax.specs.Answers as answers;
-ghost use Rattle.wl_syntax.specs.Answers.{Answers};
+ghost use Rattle.wl_syntax.specs.Parsed as parsed;
+ghost use Rattle.wl_syntax.specs.Parsed.{IsParsed};
 ghost use Rattle.wl_syntax.specs.Flat.{nodes};
 ghost use Rattle.wl_syntax.specs.Polish.{token_of};
 ghost use Rattle.wl_syntax.specs.declared.parser.TreeFault.TheVariants as fault;
@@ -28,7 +28,7 @@ impl From<AllocError> for TreeFault {
 }
 
 fn first_unmet(unmet: Option<usize>, are_met: bool, place: usize) -> Option<usize>
-    ensures { result ≡ answers.first_unmet unmet are_met place }
+    ensures { result ≡ parsed.first_unmet unmet are_met place }
 {
     match unmet {
         Some(first) => Some(first),
@@ -38,7 +38,7 @@ fn first_unmet(unmet: Option<usize>, are_met: bool, place: usize) -> Option<usiz
 
 /// The nodes of the tree, each behind its operands.
 pub(crate) fn read_tree<'a>(alloc: Global, tokens: &[Token<'a>]) -> Result<Vec<Node<'a>>, TreeFault>
-    ensures { Answers (λ (v : Vec Node Global). nodes v.items) (map token_of tokens.now) result }
+    ensures { IsParsed (λ (v : Vec Node Global). nodes v.items) (map token_of tokens.now) result }
 {
     let mut machine = Machine::new(alloc);
     let mut tags = Tags::new(alloc);

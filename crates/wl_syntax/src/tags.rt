@@ -13,7 +13,7 @@ use std::alloc::{AllocError, Global};
 /// What stands behind the last `,` or `;` of a bracket level: no `/:` that waits for a definition; one that no `=`, `:=`
 /// or `=.` follows; or one that only a `=.` follows, which is a definition if it is the last token of the level.
 #[derive(Clone, Copy)]
-pub enum Tagging {
+pub(crate) enum Tagging {
     Untagged,
     Tagged,
     Dotted,

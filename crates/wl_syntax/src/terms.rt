@@ -1,5 +1,8 @@
 //! Expressions of parts that are made here, without stamps. What is made is within the limits of an expression, so that
 //! only want of memory is left to answer.
+//!
+//! Here and in `atoms.rt`, `lower.rt` and `build.rt` a call's answer is opened and closed again, by `Ok(f(..)?)`, where the
+//! clause of the caller isn't that of the call: its proof is about the expression and not about the answer.
 ghost use Rattle.std.specs.Prelude.{◌≡◌, ◌≤◌, ◌<◌, IfOk, List, Some, None, true, length};
 ghost use Rattle.wl_expr.specs.Stamped.{Stamped, node as stamped_node, from_list, symbol as stamped_symbol, text as stamped_text, unstamped};
 ghost use Rattle.wl_expr.specs.Tree as full;

@@ -3,7 +3,7 @@ use crate::operator::{Infix, Postfix, Prefix, Sign};
 
 /// An operand of one token, with the token's text.
 #[derive(Clone, Copy)]
-pub enum Atom<'a> {
+pub(crate) enum Atom<'a> {
     Number(&'a str),
     Name(&'a str),
     Pattern(&'a str),
@@ -13,7 +13,7 @@ pub enum Atom<'a> {
 }
 
 #[derive(Clone, Copy)]
-pub enum Token<'a> {
+pub(crate) enum Token<'a> {
     Atom(Atom<'a>),
     Sign(Sign),
     OpenRound,
@@ -28,7 +28,7 @@ pub enum Token<'a> {
 /// A node of a tree, which stands behind its operands. `List` stands before the elements of `{a, b}`, and each element
 /// and index is marked by an `Element` behind it.
 #[derive(Clone, Copy)]
-pub enum Node<'a> {
+pub(crate) enum Node<'a> {
     Leaf(Atom<'a>),
     List,
     Paren,

@@ -7,7 +7,10 @@ ghost use Rattle.wl_syntax.specs.RoleOf.{role_of};
 ghost use Rattle.wl_syntax.specs.declared.machine.Standing.TheVariants as standing;
 
 use super::{Entry, Machine, Standing};
-use crate::operator::{Infix, SignRole, infix_level, postfix_level, prefix_of, role};
+use crate::operator::{
+    END_LEVEL, Infix, SEMI_LEVEL, SQUARE_LEVEL, SignRole, infix_level, postfix_level, prefix_of,
+    role,
+};
 use crate::token::{Atom, Node, Token};
 use std::alloc::AllocError;
 
@@ -115,7 +118,7 @@ impl<'a> Machine<'a> {
                 self.end_with(operator)?;
             }
             SignRole::Parts => {
-                self.close(30)?;
+                self.close(SEMI_LEVEL)?;
                 self.part_with();
             }
             SignRole::Nothing => self.standing = Standing::Dead,
@@ -131,23 +134,23 @@ impl<'a> Machine<'a> {
         match token {
             Token::Sign(sign) => self.go_on_sign(role(sign))?,
             Token::OpenSquare => {
-                self.close(3)?;
+                self.close(SQUARE_LEVEL)?;
                 self.open_square()?;
             }
             Token::CloseRound => {
-                self.close(31)?;
+                self.close(END_LEVEL)?;
                 self.close_round()?;
             }
             Token::CloseSquare => {
-                self.close(31)?;
+                self.close(END_LEVEL)?;
                 self.close_square()?;
             }
             Token::CloseBrace => {
-                self.close(31)?;
+                self.close(END_LEVEL)?;
                 self.close_brace()?;
             }
             Token::Comma => {
-                self.close(31)?;
+                self.close(END_LEVEL)?;
                 self.next_element()?;
             }
             Token::Atom(_) => self.start_beside(token)?,

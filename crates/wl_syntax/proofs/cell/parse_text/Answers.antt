@@ -1,6 +1,6 @@
 use Rattle.std.proofs.Common.{◌≡◌, map, ap, subst, ◌∙◌}
 use Rattle.wl_scan.specs.TokenParts.{lexeme_of}
-use Rattle.wl_syntax.specs.Answers.{IsTreeOf}
+use Rattle.wl_syntax.specs.Parsed.{IsTreeOf}
 use Rattle.wl_syntax.specs.Lexer.{grammar_token}
 use Rattle.wl_syntax.specs.Polish.{token_of, node_of, polish}
 use Rattle.wl_syntax.specs.Tree.{Tree}

@@ -8,7 +8,7 @@ use Rattle.wl_syntax.specs.Laws.{LoosePostfix, MixedComparison, Negations, Dotte
 use Rattle.wl_syntax.specs.Lexer.{tokens}
 use Rattle.wl_syntax.specs.Lower.{lower}
 use Rattle.wl_syntax.specs.Machine.{parse, run, wants, IsAlive}
-use Rattle.wl_syntax.specs.Answers.{HasNoTree}
+use Rattle.wl_syntax.specs.Parsed.{HasNoTree}
 use Rattle.wl_syntax.specs.Ending.{Viable}
 use Rattle.wl_syntax.specs.Tags.{met}
 use Rattle.wl_syntax.specs.declared.fault.SyntaxFault.TheVariants.{Unclosed, Unexpected}

@@ -26,11 +26,11 @@ pub record IsUnexpected (ks : List Token) (place : ℕ) : Type 0 where
   pub ends_it : Viable (take (place + 1) ks) → ⊥
   pub before : (j : ℕ) → j ≤ place → Viable (take j ks)
 
-abbrev pub Answers : {V : Type 0} → (V → List Node) → List Token → Result V TreeFault → Type 0
-Answers nodes ks (Ok v) = (t : Tree) × IsTreeOf ks t × (nodes v ≡ polish t)
-Answers nodes ks (Err Memory) = Unit {0}
-Answers nodes ks (Err Unclosed) = IsUnclosed ks
-Answers nodes ks (Err (Unexpected place)) = IsUnexpected ks place
+abbrev pub IsParsed : {V : Type 0} → (V → List Node) → List Token → Result V TreeFault → Type 0
+IsParsed nodes ks (Ok v) = (t : Tree) × IsTreeOf ks t × (nodes v ≡ polish t)
+IsParsed nodes ks (Err Memory) = Unit {0}
+IsParsed nodes ks (Err Unclosed) = IsUnclosed ks
+IsParsed nodes ks (Err (Unexpected place)) = IsUnexpected ks place
 
 -- the place of the first token behind which the levels weren't met
 abbrev pub first_unmet : Option ℕ → Bool → ℕ → Option ℕ
