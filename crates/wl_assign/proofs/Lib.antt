@@ -1,0 +1,3 @@
+mod FirstNames
+mod Forms
+mod Found

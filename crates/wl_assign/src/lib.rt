@@ -1,0 +1,18 @@
+//! Left sides of definitions: what is defined, by which kind of rule, and for which symbols.
+#![tactic(auto)]
+
+mod kinds;
+pub mod laws;
+mod left_side;
+mod limits;
+mod special;
+mod tags;
+mod targets;
+#[cfg(test)]
+mod tests;
+
+pub use kinds::{Core, Target};
+pub use left_side::core;
+pub use limits::limit_allows;
+pub use tags::tag_at;
+pub use targets::target;
