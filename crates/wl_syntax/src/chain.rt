@@ -7,7 +7,7 @@ use crate::operator::{Infix, SEMI_LEVEL, infix_level, infix_name};
 
 /// The definition that a `/:` turns into one for its tag.
 #[derive(Clone, Copy)]
-pub(crate) enum Tagged {
+pub enum Tagged {
     TagSet,
     TagSetDelayed,
     TagUnset,
@@ -16,7 +16,7 @@ pub(crate) enum Tagged {
 /// What stands at the top of a tree, without parentheses: a chain with its last operator, comparisons of several kinds,
 /// nested pairs of `===` and `=!=`, a definition, a name, or anything else.
 #[derive(Clone, Copy)]
-pub(crate) enum Form {
+pub enum Form {
     Other,
     Name,
     Chain(Infix),
@@ -29,7 +29,7 @@ pub(crate) enum Form {
 /// comparisons with a chain of one kind or with one that is mixed already; it nests a chain of samenesses, or goes on with
 /// one that is nested.
 #[derive(Clone, Copy)]
-pub(crate) enum Link {
+pub enum Link {
     Alone,
     Starts,
     GoesOn,

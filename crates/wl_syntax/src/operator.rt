@@ -5,7 +5,7 @@ ghost use Rattle.wl_syntax.specs.RoleOf.{role_of};
 
 /// Operators between two operands. `Beside` has no sign: it is a juxtaposition.
 #[derive(Clone, Copy, Debug, PartialEq, Eq)]
-pub(crate) enum Infix {
+pub enum Infix {
     Message,
     PatternTest,
     Of,
@@ -52,7 +52,7 @@ pub(crate) enum Infix {
 
 /// Operators before an operand.
 #[derive(Clone, Copy, Debug, PartialEq, Eq)]
-pub(crate) enum Prefix {
+pub enum Prefix {
     PreIncrement,
     PreDecrement,
     Negate,
@@ -61,7 +61,7 @@ pub(crate) enum Prefix {
 
 /// Operators behind an operand, but for a last `;`.
 #[derive(Clone, Copy, Debug, PartialEq, Eq)]
-pub(crate) enum Postfix {
+pub enum Postfix {
     Increment,
     Decrement,
     Factorial,
@@ -73,7 +73,7 @@ pub(crate) enum Postfix {
 
 /// Signs but for the brackets and the comma. `Unused` stands for those of no operator, as `;;`.
 #[derive(Clone, Copy, Debug, PartialEq, Eq)]
-pub(crate) enum Sign {
+pub enum Sign {
     ColonColon,
     Question,
     At,
@@ -127,7 +127,7 @@ pub(crate) enum Sign {
 
 /// What a sign is behind an operand. `;` parts: the next token says whether it is infix or postfix.
 #[derive(Clone, Copy)]
-pub(crate) enum SignRole {
+pub enum SignRole {
     Joins(Infix),
     Ends(Postfix),
     Parts,

@@ -3,7 +3,7 @@ use crate::operator::{Infix, Postfix, Prefix, Sign};
 
 /// An operand of one token, with the token's text.
 #[derive(Clone, Copy)]
-pub(crate) enum Atom<'a> {
+pub enum Atom<'a> {
     Number(&'a str),
     Name(&'a str),
     Pattern(&'a str),
@@ -13,7 +13,7 @@ pub(crate) enum Atom<'a> {
 }
 
 #[derive(Clone, Copy)]
-pub(crate) enum Token<'a> {
+pub enum Token<'a> {
     Atom(Atom<'a>),
     Sign(Sign),
     OpenRound,
@@ -28,7 +28,7 @@ pub(crate) enum Token<'a> {
 /// A node of a tree, which stands behind its operands. `List` stands before the elements of `{a, b}`, and each element
 /// and index is marked by an `Element` behind it.
 #[derive(Clone, Copy)]
-pub(crate) enum Node<'a> {
+pub enum Node<'a> {
     Leaf(Atom<'a>),
     List,
     Paren,
