@@ -1,0 +1,4 @@
+pub mod Reads
+pub mod Live
+pub mod Composition
+pub mod Laws
