@@ -33,5 +33,6 @@ fn is_live_read<L: Ledger>(store: &Store, index: u64, version: u64, work: &mut W
     ensures live { IsTrue result ↔ IsLiveRead store.now (index, version) }
     ensures ticks { TicksAtMost 1 work.old work.new }
 {
-    version != u64::MAX && store.version(index, work) == version
+    let is_same = store.version(index, work) == version;
+    is_same && version != u64::MAX
 }
