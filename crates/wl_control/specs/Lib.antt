@@ -1,6 +1,7 @@
 -- The definition: what a row asks, one question after the other, and the rows.
 pub mod Asks
 pub mod Branches
+pub mod Collected
 pub mod Families
 pub mod Loops
 pub mod Table

@@ -1,15 +1,17 @@
 -- What the place of a row stands for, and the expressions that it holds.
-use Rattle.std.specs.Prelude.{◌≡◌, ⊤, Bool, List, ◌∷◌, map, option_map, Option, Some, None, Result, Err, IfOk, codes, if◌then◌else◌}
+use Rattle.std.specs.Prelude.{◌≡◌, ◌<◌, ◌≤◌, ⊤, Bool, List, [], ◌∷◌, ◌++◌, map, option_map, Option, Some, None, Result, Err, IfOk, codes, if◌then◌else◌}
 use Rattle.std.specs.List.{All}
 use Rattle.wl_expr.specs.Passed.{IsFrom}
 use Rattle.wl_expr.specs.Stamped.{Stamped, plain}
 use Rattle.wl_expr.specs.Tree.{Tree, IsWithinLimits}
-use Rattle.wl_expr.specs.Words.{applied}
+use Rattle.wl_expr.specs.Same.{same}
+use Rattle.wl_expr.specs.Words.{applied, is_true}
 use Rattle.wl_expr.specs.declared.fault.ExprFault.{ExprFault}
 use Rattle.wl_expr.specs.declared.fault.ExprFault.TheVariants.{Large}
 use Rattle.wl_control.specs.Asks.{Asks, gives, stays, eval, eval_catching, matches, by_truth, Caught, value, broke, continued}
 use Rattle.wl_control.specs.Branches.{which_from, switch_from, left_over, joined, conjunction, disjunction, compound_row}
-use Rattle.wl_control.specs.Families.{scan_from, fold_from}
+use Rattle.wl_control.specs.Collected.{collected, total_weight}
+use Rattle.wl_control.specs.Families.{select_from, scan_from, fold_from, fold_list_from, nest_from, nest_list_from, fixed_point_from}
 use Rattle.wl_control.specs.Loops.{loop_from, part, after_condition, after_part}
 use Rattle.wl_control.specs.Stand.{Question, evaluate, test, assign, begin_pass, overflow, result, unchanged, Answer, start, came, matched, went, Stand, starts, for_value, for_end, for_match, for_leave, over, asked, behind, IsTooLarge}
 use Rattle.wl_control.specs.declared.place.Ask.{Ask}
@@ -32,6 +34,7 @@ use Rattle.wl_control.specs.declared.place.Left.{Left}
 use Rattle.wl_control.specs.declared.place.Left.TheVariants as left
 use Rattle.wl_control.specs.declared.place.Call.{Call}
 use Rattle.wl_control.specs.declared.place.Fold.{Fold}
+use Rattle.wl_control.specs.declared.place.Select.{Select}
 use Rattle.wl_control.specs.declared.place.Switch.{Switch}
 use Rattle.wl_control.specs.declared.place.Junction.{Junction}
 use Rattle.wl_control.specs.declared.place.Connective.{Connective}
@@ -100,6 +103,12 @@ abbrev pub joined_by : Connective → List Tree → List Tree → Tree → Asks
 joined_by And left es v = joined (codes "False") (codes "True") left v (λ more. conjunction more es)
 joined_by Or left es v = joined (codes "True") (codes "False") left v (λ more. disjunction more es)
 
+-- what the value of the test of an element leads to
+abbrev pub selected_asks : Select → Tree → Tree → Asks
+selected_asks s x v =
+    if is_true v then select_from (plain s.head) (plain s.test) (trees s.selected.items ++ x ∷ []) (trees s.rest.items)
+    else select_from (plain s.head) (plain s.test) (trees s.selected.items) (trees s.rest.items)
+
 abbrev pub row_asks : Row → Asks
 row_asks row.Stays = stays
 row_asks (row.Gives e) = gives (plain e)
@@ -109,8 +118,13 @@ row_asks (row.Junction j) = junction_asks j
 row_asks (row.Compound e es) = compound_row (plain e ∷ trees es.items)
 row_asks (row.While l) = loop_asks l
 row_asks (row.For s l) = eval (plain s) (λ v. loop_asks l)
+row_asks (row.Select s) = select_from (plain s.head) (plain s.test) (trees s.selected.items) (trees s.rest.items)
 row_asks (row.Scan f) = scan_from (plain f.function) (trees f.rest.items)
 row_asks (row.Fold f v) = fold_from (plain f.function) (plain v) (trees f.rest.items)
+row_asks (row.FoldList f found v) = fold_list_from (plain f.function) (trees found) (plain v) (trees f.rest.items)
+row_asks (row.Nest n v) = nest_from (plain n.function) (plain v) n.passes
+row_asks (row.NestList n found v) = nest_list_from (plain n.function) (trees found) (plain v) n.passes
+row_asks (row.FixedPoint n v) = fixed_point_from n.passes (plain n.function) (plain v)
 
 abbrev pub value_asks : Valued → Tree → Asks
 value_asks (valued.Which v es) u = by_truth u (gives (plain v)) (which_from (trees es.items)) stays
@@ -118,8 +132,13 @@ value_asks (valued.Switch s) q = matches (plain s.subject) q (switch_asks s)
 value_asks (valued.Junction j) v = joined_by j.connective (trees j.left.items) (trees j.rest.items) v
 value_asks (valued.Compound e es) v = compound_row (plain e ∷ trees es.items)
 value_asks (valued.For l) v = loop_asks l
+value_asks (valued.Select s e) v = selected_asks s (plain e) v
 value_asks (valued.Scan f) v = scan_from (plain f.function) (trees f.rest.items)
 value_asks (valued.Fold f) w = fold_from (plain f.function) w (trees f.rest.items)
+value_asks (valued.FoldList f found) w = collected (trees found ++ w ∷ []) (λ more. fold_list_from (plain f.function) more w (trees f.rest.items))
+value_asks (valued.Nest n) w = nest_from (plain n.function) w n.passes
+value_asks (valued.NestList n found) w = collected (trees found ++ w ∷ []) (λ more. nest_list_from (plain n.function) more w n.passes)
+value_asks (valued.FixedPoint n v) w = if same w (plain v) then gives (plain v) else fixed_point_from n.passes (plain n.function) w
 
 abbrev pub end_asks : Ended → Caught → Asks
 end_asks (end.Condition l) u = after_condition u (body_asks l) (step_asks l)
@@ -153,6 +172,12 @@ pub record IsAnswer (a : Asks) (r : Result Step ExprFault) : Type 0 where
 pub record IsMade (t : Tree) (r : Result Stamped ExprFault) : Type 0 where
   pub tree : IfOk r (λ e. plain e ≡ t)
   pub large : r ≡ Err Large → ¬ IsWithinLimits t
+
+-- the values are these trees, which aren't too heavy; and Large comes only where they are
+pub record IsCollected (ts : List Tree) (r : Result (List Stamped) ExprFault) : Type 0 where
+  pub values : IfOk r (λ f. trees f ≡ ts)
+  pub light : IfOk r (λ f. total_weight ts ≤ 4000000)
+  pub large : r ≡ Err Large → 4000000 < total_weight ts
 
 -- ---- what a place holds
 
@@ -188,6 +213,9 @@ LoopIsFrom ms l = IsFrom ms l.condition × OptionIsFrom ms l.body × OptionIsFro
 abbrev pub FoldIsFrom : List Stamped → Fold → Type 0
 FoldIsFrom ms f = IsFrom ms f.function × AllFrom ms f.rest.items
 
+abbrev pub SelectIsFrom : List Stamped → Select → Type 0
+SelectIsFrom ms s = IsFrom ms s.head × IsFrom ms s.test × AllFrom ms s.selected.items × AllFrom ms s.rest.items
+
 abbrev pub CallIsFrom : List Stamped → Call → Type 0
 CallIsFrom ms c = IsFrom ms c.function × AllFrom ms c.args.items
 
@@ -200,8 +228,13 @@ RowIsFrom ms (row.Junction j) = JunctionIsFrom ms j
 RowIsFrom ms (row.Compound e es) = IsFrom ms e × AllFrom ms es.items
 RowIsFrom ms (row.While l) = LoopIsFrom ms l
 RowIsFrom ms (row.For s l) = IsFrom ms s × LoopIsFrom ms l
+RowIsFrom ms (row.Select s) = SelectIsFrom ms s
 RowIsFrom ms (row.Scan f) = FoldIsFrom ms f
 RowIsFrom ms (row.Fold f v) = FoldIsFrom ms f × IsFrom ms v
+RowIsFrom ms (row.FoldList f found v) = FoldIsFrom ms f × AllFrom ms found × IsFrom ms v
+RowIsFrom ms (row.Nest n v) = IsFrom ms n.function × IsFrom ms v
+RowIsFrom ms (row.NestList n found v) = IsFrom ms n.function × AllFrom ms found × IsFrom ms v
+RowIsFrom ms (row.FixedPoint n v) = IsFrom ms n.function × IsFrom ms v
 
 abbrev pub ValuedIsFrom : List Stamped → Valued → Type 0
 ValuedIsFrom ms (valued.Which v es) = IsFrom ms v × AllFrom ms es.items
@@ -209,8 +242,13 @@ ValuedIsFrom ms (valued.Switch s) = SwitchIsFrom ms s
 ValuedIsFrom ms (valued.Junction j) = JunctionIsFrom ms j
 ValuedIsFrom ms (valued.Compound e es) = IsFrom ms e × AllFrom ms es.items
 ValuedIsFrom ms (valued.For l) = LoopIsFrom ms l
+ValuedIsFrom ms (valued.Select s e) = SelectIsFrom ms s × IsFrom ms e
 ValuedIsFrom ms (valued.Scan f) = FoldIsFrom ms f
 ValuedIsFrom ms (valued.Fold f) = FoldIsFrom ms f
+ValuedIsFrom ms (valued.FoldList f found) = FoldIsFrom ms f × AllFrom ms found
+ValuedIsFrom ms (valued.Nest n) = IsFrom ms n.function
+ValuedIsFrom ms (valued.NestList n found) = IsFrom ms n.function × AllFrom ms found
+ValuedIsFrom ms (valued.FixedPoint n v) = IsFrom ms n.function × IsFrom ms v
 
 abbrev pub EndedIsFrom : List Stamped → Ended → Type 0
 EndedIsFrom ms (end.Condition l) = LoopIsFrom ms l

@@ -14,8 +14,13 @@ pub enum Kind {
     CompoundExpression,
     While,
     For,
+    Select,
     Scan,
     Fold,
+    FoldList,
+    Nest,
+    NestList,
+    FixedPoint,
 }
 
 /// The row of this name.
@@ -31,8 +36,13 @@ pub(crate) fn kind_of(name: &str) -> Option<Kind>
         "CompoundExpression" => Some(Kind::CompoundExpression),
         "While" => Some(Kind::While),
         "For" => Some(Kind::For),
+        "Select" => Some(Kind::Select),
         "Scan" => Some(Kind::Scan),
         "Fold" => Some(Kind::Fold),
+        "FoldList" => Some(Kind::FoldList),
+        "Nest" => Some(Kind::Nest),
+        "NestList" => Some(Kind::NestList),
+        "FixedPoint" => Some(Kind::FixedPoint),
         _ => None,
     }
 }

@@ -4,9 +4,11 @@
 mod choices;
 mod cursor;
 mod families;
+mod found;
 mod junction;
 mod kind;
 mod loops;
+mod nests;
 mod place;
 mod rows;
 mod step;

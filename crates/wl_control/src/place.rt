@@ -1,4 +1,5 @@
 //! Where a row stands: what it holds between a question and its answer.
+use crate::found::Found;
 use std::collections::VecDeque;
 use wl_expr::Expr;
 
@@ -69,8 +70,13 @@ pub enum Row {
     Compound(Expr, VecDeque<Expr>),
     While(Loop),
     For(Expr, Loop),
+    Select(Select),
     Scan(Fold),
     Fold(Fold, Expr),
+    FoldList(Fold, Found, Expr),
+    Nest(Nest, Expr),
+    NestList(Nest, Found, Expr),
+    FixedPoint(Nest, Expr),
 }
 
 /// What a value decides.
@@ -81,8 +87,13 @@ pub enum Valued {
     Junction(Junction),
     Compound(Expr, VecDeque<Expr>),
     For(Loop),
+    Select(Select, Expr),
     Scan(Fold),
     Fold(Fold),
+    FoldList(Fold, Found),
+    Nest(Nest),
+    NestList(Nest, Found),
+    FixedPoint(Nest, Expr),
 }
 
 /// What the end of an evaluation decides, where Break and Continue are caught.
@@ -112,6 +123,22 @@ pub struct Call {
 pub struct Fold {
     pub function: Expr,
     pub rest: VecDeque<Expr>,
+}
+
+/// A test over the elements that are left, the elements that it has selected, and the head that they get.
+#[derive(Drop)]
+pub struct Select {
+    pub head: Expr,
+    pub test: Expr,
+    pub selected: Vec<Expr>,
+    pub rest: VecDeque<Expr>,
+}
+
+/// A function, and how often it may still be applied.
+#[derive(Drop)]
+pub struct Nest {
+    pub function: Expr,
+    pub passes: u128,
 }
 
 /// The choice of `Switch` at one of its patterns: what it chooses there, and what it goes on with.
