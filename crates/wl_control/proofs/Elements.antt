@@ -1,6 +1,6 @@
 -- Stamps that are handed on, at the front and at the end of a list; and the trees of a list.
-use Rattle.std.proofs.Common.{◌≡◌, List, [], ◌∷◌, ◌++◌, Option, Result, Some, refl, ap, ◌∙◌, subst, sym}
-use Rattle.std.proofs.lemmas.List.Elements.{All-head, All-tail, All-push}
+use Rattle.std.proofs.Common.{◌≡◌, List, [], ◌∷◌, ◌++◌, Option, Result, Some, refl, ap, ◌∙◌, subst, sym, arith}
+use Rattle.std.proofs.lemmas.List.Elements.{All-cons, All-head, All-tail, All-push}
 use Rattle.wl_expr.proofs.Parts.{plains_from_list}
 use Rattle.wl_expr.specs.Passed.{IsFrom}
 use Rattle.wl_expr.specs.Stamped.{Stamped, plain, plains, from_list}
@@ -20,6 +20,13 @@ pub front_from : (ms : List Stamped) (xs ys : List Stamped) (x : Stamped) → xs
 front_from ms xs ys x e h =
     let all : AllFrom ms (x ∷ ys) = subst (AllFrom ms) e h in
     (All-head (IsFrom ms) x ys all, All-tail (IsFrom ms) x ys all)
+
+-- one more in front, and none
+pub cons_from : (ms : List Stamped) (xs ys : List Stamped) (x : Stamped) → xs ≡ x ∷ ys → IsFrom ms x → AllFrom ms ys → AllFrom ms xs
+cons_from ms xs ys x e here h = subst (AllFrom ms) (sym e) (All-cons (IsFrom ms) x ys here h)
+
+pub none_from : (ms : List Stamped) (xs : List Stamped) → xs ≡ [] → AllFrom ms xs
+none_from ms xs e = subst (AllFrom ms) (sym e) (λ k d l. absurd (omega arith))
 
 -- one more at the end
 pub push_from : (ms : List Stamped) (xs ys : List Stamped) (x : Stamped) → ys ≡ xs ++ x ∷ [] → AllFrom ms xs → IsFrom ms x → AllFrom ms ys

@@ -5,6 +5,8 @@ mod Collecting
 mod Counts
 mod Elements
 mod Faults
+mod Iterated
+mod Iterating
 mod Nesting
 mod Passes
 mod WorkedRows

@@ -11,6 +11,7 @@ use crate::choices::{switch_from, switch_matched, switch_on, which_from, which_o
 use crate::families::{
     call_from, fold_from, fold_list_from, fold_list_on, scan_from, select_from, select_on,
 };
+use crate::iterators::{bound_on, bounds_from, do_on, pass_from, table_on, value_from};
 use crate::junction::{compound_from, junction_from, junction_on};
 use crate::kind::kind_of;
 use crate::loops::{condition_from, loop_from, loop_on};
@@ -114,6 +115,8 @@ fn left_from(alloc: Global, left: Left) -> Result<Step, ExprFault>
     match left {
         Left::Condition(state) => condition_from(state),
         Left::Call(call, then) => call_from(alloc, call, then),
+        Left::Iterate(passes, found, value) => value_from(alloc, passes, found, value),
+        Left::Set(passes, found, value) => pass_from(alloc, passes, found, value),
     }
 }
 
@@ -131,6 +134,7 @@ fn row_from(alloc: Global, row: Row) -> Result<Step, ExprFault>
         Row::Compound(first, rest) => compound_from(first, rest),
         Row::While(state) => loop_from(state),
         Row::For(start, state) => evaluate(start, Valued::For(state)),
+        Row::Iterate(bounds) => bounds_from(alloc, bounds),
         Row::Select(select) => select_from(alloc, select),
         Row::Scan(fold) => scan_from(alloc, fold),
         Row::Fold(fold, value) => fold_from(alloc, fold, value),
@@ -152,6 +156,8 @@ fn value_on(alloc: Global, valued: Valued, value: &Expr) -> Result<Step, ExprFau
         Valued::Junction(junction) => junction_on(alloc, junction, value),
         Valued::Compound(first, rest) => compound_from(first, rest),
         Valued::For(state) => loop_from(state),
+        Valued::Bound(bounds) => bound_on(alloc, bounds, value),
+        Valued::Table(passes, found, number) => table_on(alloc, passes, found, number, value),
         Valued::Select(select, element) => select_on(alloc, select, &element, value),
         Valued::Scan(fold) => scan_from(alloc, fold),
         Valued::Fold(fold) => fold_from(alloc, fold, value.copy()?),

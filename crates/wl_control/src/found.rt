@@ -34,6 +34,16 @@ impl Model for Found {
 }
 
 impl Found {
+    /// No value.
+    pub(crate) fn new(alloc: Global) -> Found
+        ensures { result ≡ [] }
+    {
+        Found {
+            values: Vec::new(alloc),
+            weight: 0,
+        }
+    }
+
     /// This value alone, which is shared.
     pub(crate) fn one(alloc: Global, value: &Expr) -> Result<Found, Memory>
         ensures { IfOk result (λ f. f ≡ value.now ∷ []) }

@@ -5,12 +5,15 @@ mod choices;
 mod cursor;
 mod families;
 mod found;
+mod iterations;
+mod iterators;
 mod junction;
 mod kind;
 mod loops;
 mod nests;
 mod place;
 mod rows;
+mod span;
 mod step;
 
 pub use cursor::Cursor;

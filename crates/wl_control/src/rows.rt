@@ -4,6 +4,7 @@ ghost use Rattle.wl_control.specs.Asks.{by_truth};
 ghost use Rattle.wl_control.specs.Branches.{if_row, which_row, switch_row, compound_row};
 ghost use Rattle.wl_control.specs.Families.{elements_of, over, select_from, select_row, scan_row, fold_row, fold_list_row, nest_row, nest_list_row, fixed_point_row};
 ghost use Rattle.wl_control.specs.Kinds.{row_by};
+ghost use Rattle.wl_control.specs.Iterators.{do_row, table_row};
 ghost use Rattle.wl_control.specs.Loops.{while_row, for_row};
 ghost use Rattle.wl_control.specs.Places.{AllFrom, RowIsFrom, junction_by, row_asks, trees};
 ghost use Rattle.wl_expr.specs.Passed.{IsFrom};
@@ -12,6 +13,7 @@ ghost use Rattle.wl_expr.specs.Words.{count_of, head_of};
 ghost use Rattle.std.specs.Prelude.{[]};
 
 use crate::found::Found;
+use crate::iterations::iterated_row;
 use crate::kind::Kind;
 use crate::loops::PASSES;
 use crate::place::{Connective, Fold, Junction, Loop, Nest, Row, Select};
@@ -35,6 +37,8 @@ pub(crate) fn row(alloc: Global, kind: Kind, args: &[Expr]) -> Result<Row, Memor
         Kind::CompoundExpression => compound_row(alloc, args),
         Kind::While => while_row(alloc, args),
         Kind::For => for_row(alloc, args),
+        Kind::Do => do_row(alloc, args),
+        Kind::Table => table_row(alloc, args),
         Kind::Select => select_row(alloc, args),
         Kind::Scan => scan_row(alloc, args),
         Kind::Fold => fold_row(alloc, args),
@@ -46,7 +50,7 @@ pub(crate) fn row(alloc: Global, kind: Kind, args: &[Expr]) -> Result<Row, Memor
 }
 
 /// The expressions, which it shares, first in first out.
-fn queue(alloc: Global, args: &[Expr]) -> Result<VecDeque<Expr>, Memory>
+pub(crate) fn queue(alloc: Global, args: &[Expr]) -> Result<VecDeque<Expr>, Memory>
     ensures { IfOk result (λ q. q.items ≡ args.now) }
 {
     let mut queue = VecDeque::new(alloc);
@@ -405,4 +409,18 @@ fn fixed_point_row(alloc: Global, args: &[Expr]) -> Result<Row, Memory>
             Ok(Row::FixedPoint(nest, first))
         }
     }
+}
+
+fn do_row(alloc: Global, args: &[Expr]) -> Result<Row, Memory>
+    ensures row { IfOk result (λ r. row_asks r ≡ do_row (trees args.now)) }
+    ensures passed { IfOk result (λ r. (ms : List Stamped) → AllFrom ms args.now → RowIsFrom ms r) }
+{
+    iterated_row(alloc, args, None)
+}
+
+fn table_row(alloc: Global, args: &[Expr]) -> Result<Row, Memory>
+    ensures row { IfOk result (λ r. row_asks r ≡ table_row (trees args.now)) }
+    ensures passed { IfOk result (λ r. (ms : List Stamped) → AllFrom ms args.now → RowIsFrom ms r) }
+{
+    iterated_row(alloc, args, Some(Found::new(alloc)))
 }
