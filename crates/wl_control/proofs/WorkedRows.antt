@@ -2,11 +2,13 @@
 use Rattle.std.proofs.Common.{◌≡◌, true, [], ◌∷◌, Some, refl}
 use Rattle.std.specs.Prelude.{codes}
 use Rattle.wl_expr.specs.Tree.{Tree, symbol}
-use Rattle.wl_expr.specs.Words.{form, null_symbol, true_symbol, false_symbol}
-use Rattle.wl_control.specs.Asks.{gives, stays, value, broke, continued}
+use Rattle.wl_expr.specs.Words.{form, list_of, natural, null_symbol, true_symbol, false_symbol}
+use Rattle.wl_control.specs.Asks.{Asks, gives, stays, value, broke, continued}
 use Rattle.wl_control.specs.Branches.{if_row, which_row, switch_row, and_row, or_row, compound_row}
+use Rattle.wl_control.specs.Families.{nest_list_from, select_row, nest_list_row}
+use Rattle.wl_control.specs.Iterators.{do_from, do_row, table_row}
 use Rattle.wl_control.specs.Loops.{loop_from, while_row, for_row}
-use Rattle.wl_control.specs.Stand.{after, asked, behind, came, evaluate, matched, test, begin_pass, went}
+use Rattle.wl_control.specs.Stand.{after, asked, assign, behind, came, evaluate, matched, test, begin_pass, went}
 
 abbrev a : Tree
 a = symbol (codes "a")
@@ -70,3 +72,33 @@ while_ends = refl
 for_goes_to_step : asked (after (behind (after (behind (after (behind (for_row (a ∷ b ∷ c ∷ d ∷ []))) (came (value a)))) went)) (came continued)) ≡ Some (evaluate c)
 unfolding loop_from
 for_goes_to_step = refl
+
+select_takes : after (behind (after (behind (select_row (form (codes "g") (a ∷ []) ∷ b ∷ []))) went)) (came (value true_symbol)) ≡ gives (form (codes "g") (a ∷ []))
+select_takes = refl
+
+nest_list_gives : after (behind (after (behind (nest_list_row (a ∷ b ∷ natural 1 ∷ []))) went)) (came (value c)) ≡ gives (list_of (b ∷ c ∷ []))
+unfolding nest_list_from
+nest_list_gives = refl
+
+-- ---- iterators: the bounds, the pass, the value and the body in turn
+
+abbrev do_bound : Asks
+do_bound = do_row (b ∷ list_of (a ∷ c ∷ []) ∷ [])
+
+do_asks_bound : asked do_bound ≡ Some (evaluate c)
+do_asks_bound = refl
+
+do_begins : asked (after (behind do_bound) (came (value (natural 1)))) ≡ Some begin_pass
+unfolding do_from
+do_begins = refl
+
+do_sets : asked (after (behind (after (behind do_bound) (came (value (natural 1))))) went) ≡ Some (assign (natural 1))
+unfolding do_from
+do_sets = refl
+
+do_ends : after (behind (after (behind (after (behind (after (behind do_bound) (came (value (natural 1))))) went)) went)) (came (value d)) ≡ gives null_symbol
+unfolding do_from
+do_ends = refl
+
+table_stays : after (behind (table_row (b ∷ list_of (a ∷ []) ∷ []))) (came (value c)) ≡ stays
+table_stays = refl

@@ -1,7 +1,9 @@
 -- The definition: what a row asks, one question after the other, and the rows.
 pub mod Asks
 pub mod Branches
+pub mod Collected
 pub mod Families
+pub mod Iterators
 pub mod Loops
 pub mod Table
 -- What contracts say of a cursor: what it waits for, and the expressions that it holds.

@@ -8,10 +8,14 @@ ghost use Rattle.wl_expr.specs.Passed.{IsFrom};
 ghost use Rattle.wl_expr.specs.Stamped.{Stamped, plain};
 
 use crate::choices::{switch_from, switch_matched, switch_on, which_from, which_on};
-use crate::families::{call_from, fold_from, scan_from};
+use crate::families::{
+    call_from, fold_from, fold_list_from, fold_list_on, scan_from, select_from, select_on,
+};
+use crate::iterators::{bound_on, bounds_from, do_on, pass_from, table_on, value_from};
 use crate::junction::{compound_from, junction_from, junction_on};
 use crate::kind::kind_of;
 use crate::loops::{condition_from, loop_from, loop_on};
+use crate::nests::{fixed_point_from, fixed_point_on, nest_from, nest_list_from, nest_list_on};
 use crate::place::{Ask, Caught, Last, Left, Place, Row, Step, Valued};
 use crate::rows::row;
 use crate::step::{evaluate, give, stay};
@@ -111,6 +115,8 @@ fn left_from(alloc: Global, left: Left) -> Result<Step, ExprFault>
     match left {
         Left::Condition(state) => condition_from(state),
         Left::Call(call, then) => call_from(alloc, call, then),
+        Left::Iterate(passes, found, value) => value_from(alloc, passes, found, value),
+        Left::Set(passes, found, value) => pass_from(alloc, passes, found, value),
     }
 }
 
@@ -128,8 +134,14 @@ fn row_from(alloc: Global, row: Row) -> Result<Step, ExprFault>
         Row::Compound(first, rest) => compound_from(first, rest),
         Row::While(state) => loop_from(state),
         Row::For(start, state) => evaluate(start, Valued::For(state)),
+        Row::Iterate(bounds) => bounds_from(alloc, bounds),
+        Row::Select(select) => select_from(alloc, select),
         Row::Scan(fold) => scan_from(alloc, fold),
         Row::Fold(fold, value) => fold_from(alloc, fold, value),
+        Row::FoldList(fold, found, value) => fold_list_from(alloc, fold, found, &value),
+        Row::Nest(nest, value) => nest_from(alloc, nest, value),
+        Row::NestList(nest, found, value) => nest_list_from(alloc, nest, found, &value),
+        Row::FixedPoint(nest, value) => fixed_point_from(alloc, nest, value),
     }
 }
 
@@ -144,7 +156,14 @@ fn value_on(alloc: Global, valued: Valued, value: &Expr) -> Result<Step, ExprFau
         Valued::Junction(junction) => junction_on(alloc, junction, value),
         Valued::Compound(first, rest) => compound_from(first, rest),
         Valued::For(state) => loop_from(state),
+        Valued::Bound(bounds) => bound_on(alloc, bounds, value),
+        Valued::Table(passes, found, number) => table_on(alloc, passes, found, number, value),
+        Valued::Select(select, element) => select_on(alloc, select, &element, value),
         Valued::Scan(fold) => scan_from(alloc, fold),
         Valued::Fold(fold) => fold_from(alloc, fold, value.copy()?),
+        Valued::FoldList(fold, found) => fold_list_on(alloc, fold, found, value),
+        Valued::Nest(nest) => nest_from(alloc, nest, value.copy()?),
+        Valued::NestList(nest, found) => nest_list_on(alloc, nest, found, value),
+        Valued::FixedPoint(nest, before) => fixed_point_on(alloc, nest, before, value),
     }
 }

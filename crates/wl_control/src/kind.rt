@@ -14,8 +14,15 @@ pub enum Kind {
     CompoundExpression,
     While,
     For,
+    Do,
+    Table,
+    Select,
     Scan,
     Fold,
+    FoldList,
+    Nest,
+    NestList,
+    FixedPoint,
 }
 
 /// The row of this name.
@@ -31,8 +38,15 @@ pub(crate) fn kind_of(name: &str) -> Option<Kind>
         "CompoundExpression" => Some(Kind::CompoundExpression),
         "While" => Some(Kind::While),
         "For" => Some(Kind::For),
+        "Do" => Some(Kind::Do),
+        "Table" => Some(Kind::Table),
+        "Select" => Some(Kind::Select),
         "Scan" => Some(Kind::Scan),
         "Fold" => Some(Kind::Fold),
+        "FoldList" => Some(Kind::FoldList),
+        "Nest" => Some(Kind::Nest),
+        "NestList" => Some(Kind::NestList),
+        "FixedPoint" => Some(Kind::FixedPoint),
         _ => None,
     }
 }

@@ -4,12 +4,19 @@
 mod choices;
 mod cursor;
 mod families;
+mod found;
+mod iterations;
+mod iterators;
 mod junction;
 mod kind;
 mod loops;
+mod nests;
 mod place;
 mod rows;
+mod span;
 mod step;
+#[cfg(test)]
+mod tests;
 
 pub use cursor::Cursor;
 pub use place::{Ask, Last};

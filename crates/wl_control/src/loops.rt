@@ -4,6 +4,7 @@ ghost use Rattle.wl_control.specs.Loops.{after_condition, after_part};
 ghost use Rattle.wl_control.specs.Places.{IsAnswer, IsPassed, LoopIsFrom, loop_asks, step_asks, body_asks, condition_asks, plain_caught, end_asks, EndedIsFrom};
 ghost use Rattle.wl_expr.specs.Stamped.{Stamped};
 
+use crate::iterators::do_on;
 use crate::place::{Ask, Caught, Ended, Left, Loop, Place, Step};
 use crate::step::{catch, give_null, is_symbol, stay};
 use std::alloc::Global;
@@ -70,6 +71,7 @@ pub(crate) fn loop_on(alloc: Global, ended: Ended, caught: Caught<'_>) -> Result
     ensures passed { (ms : List Stamped) → EndedIsFrom ms ended → IsPassed ms result }
 {
     match ended {
+        Ended::Do(passes, value) => do_on(alloc, passes, value, caught),
         Ended::Condition(state) => condition_on(alloc, state, caught),
         Ended::Body(state) => match caught {
             Caught::Broke => give_null(alloc),

@@ -1,5 +1,7 @@
 //! Where a row stands: what it holds between a question and its answer.
+use crate::found::Found;
 use std::collections::VecDeque;
+use wl_exact::Num;
 use wl_expr::Expr;
 
 /// The answer to what was asked last, or the first call.
@@ -69,8 +71,14 @@ pub enum Row {
     Compound(Expr, VecDeque<Expr>),
     While(Loop),
     For(Expr, Loop),
+    Iterate(Bounds),
+    Select(Select),
     Scan(Fold),
     Fold(Fold, Expr),
+    FoldList(Fold, Found, Expr),
+    Nest(Nest, Expr),
+    NestList(Nest, Found, Expr),
+    FixedPoint(Nest, Expr),
 }
 
 /// What a value decides.
@@ -81,8 +89,15 @@ pub enum Valued {
     Junction(Junction),
     Compound(Expr, VecDeque<Expr>),
     For(Loop),
+    Bound(Bounds),
+    Table(Passes, Found, Num),
+    Select(Select, Expr),
     Scan(Fold),
     Fold(Fold),
+    FoldList(Fold, Found),
+    Nest(Nest),
+    NestList(Nest, Found),
+    FixedPoint(Nest, Expr),
 }
 
 /// What the end of an evaluation decides, where Break and Continue are caught.
@@ -91,6 +106,7 @@ pub enum Ended {
     Condition(Loop),
     Body(Loop),
     Step(Loop),
+    Do(Passes, Num),
 }
 
 /// What comes once a pass has begun.
@@ -98,6 +114,51 @@ pub enum Ended {
 pub enum Left {
     Condition(Loop),
     Call(Call, Valued),
+    Iterate(Passes, Option<Found>, Num),
+    Set(Passes, Option<Found>, Num),
+}
+
+/// An iterator: whether it gives its values to a name, and its bounds.
+#[derive(Drop)]
+pub struct Iteration {
+    pub named: bool,
+    pub bounds: VecDeque<Expr>,
+}
+
+/// The bounds of an iterator: those that have a value, and those that aren't evaluated yet. What each pass evaluates is the first of
+/// `body`, or where further iterators are behind it, `Do` or `Table` of all. `Do` collects nothing.
+#[derive(Drop)]
+pub struct Bounds {
+    pub named: bool,
+    pub body: Vec<Expr>,
+    pub found: Option<Found>,
+    pub known: Vec<Expr>,
+    pub rest: VecDeque<Expr>,
+}
+
+/// The first value of an iterator, its bound and its step.
+#[derive(Clone, Copy)]
+pub struct Span {
+    pub from: Num,
+    pub to: Num,
+    pub by: Num,
+}
+
+/// What comes next in an iterator: a value, the end, or an overflow.
+#[derive(Clone, Copy)]
+pub enum Following {
+    Next(Num),
+    Ended,
+    Overflowed,
+}
+
+/// The passes over an iterator, and how many it may still begin: more than there are steps.
+#[derive(Drop)]
+pub struct Passes {
+    pub named: bool,
+    pub body: Vec<Expr>,
+    pub span: Span,
+    pub passes: u128,
 }
 
 /// A function, and what it is applied to.
@@ -112,6 +173,22 @@ pub struct Call {
 pub struct Fold {
     pub function: Expr,
     pub rest: VecDeque<Expr>,
+}
+
+/// A test over the elements that are left, the elements that it has selected, and the head that they get.
+#[derive(Drop)]
+pub struct Select {
+    pub head: Expr,
+    pub test: Expr,
+    pub selected: Vec<Expr>,
+    pub rest: VecDeque<Expr>,
+}
+
+/// A function, and how often it may still be applied.
+#[derive(Drop)]
+pub struct Nest {
+    pub function: Expr,
+    pub passes: u128,
 }
 
 /// The choice of `Switch` at one of its patterns: what it chooses there, and what it goes on with.

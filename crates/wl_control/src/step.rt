@@ -5,7 +5,7 @@ ghost use Rattle.wl_control.specs.Places.{IsAnswer, IsMade, IsPassed, AllFrom, t
 ghost use Rattle.wl_expr.specs.Passed.{IsFrom};
 ghost use Rattle.wl_expr.specs.Stamped.{Stamped, plain, symbol as stamped_symbol};
 ghost use Rattle.wl_expr.specs.Tree.{symbol as tree_symbol};
-ghost use Rattle.wl_expr.specs.Words.{applied, is_the, null_symbol};
+ghost use Rattle.wl_expr.specs.Words.{applied, is_the, list_of, null_symbol};
 ghost use Rattle.wl_ports.specs.Name.{IsName};
 
 use crate::place::{Ask, Ended, Place, Step, Valued};
@@ -96,6 +96,14 @@ pub(crate) fn give_null(alloc: Global) -> Result<Step, ExprFault>
     ensures passed { (ms : List Stamped) → IsPassed ms result }
 {
     give_symbol(alloc, "Null")
+}
+
+/// Ends with the list of these elements.
+pub(crate) fn give_list(alloc: Global, elements: &[Expr]) -> Result<Step, ExprFault>
+    ensures answer { IsAnswer (gives (list_of (trees elements.now))) result }
+    ensures passed { (ms : List Stamped) → AllFrom ms elements.now → IsPassed ms result }
+{
+    give(node(alloc, &symbol(alloc, "List")?, elements)?)
 }
 
 /// The node of this head and these elements.
