@@ -1,5 +1,5 @@
 -- Maps with texts as keys, by the texts' bytes.
-use Rattle.std.proofs.Common.{◌≡◌, ℕ, true, false, cond, List, [], ◌∷◌, map, Some, option_map, bytes_eq, refl, ap}
+use Rattle.std.proofs.Common.{◌≡◌, ℕ, true, false, cond, List, [], ◌∷◌, map, Some, option_map, bytes_eq, slice_get, zero, suc, refl, ap}
 use Rattle.std.proofs.lemmas.Map.Text.{is_eq-slice_cmp}
 use Rattle.std.specs.BTreeMap.{insert_entry, is_at}
 use Rattle.std.specs.Cmp.Lexicographic.{slice_cmp}
@@ -38,3 +38,15 @@ module _ {Y X Z : Type 0} (g : X → Z) where
         | Equal ↦ refl
         | Greater ↦ ap (λ xs. by_bytes e ∷ xs) (insert-texts es k v)
       ]
+
+  -- ---- by place
+
+  pub texts_at : (es : List (String Y × X)) (k : ℕ) → slice_get {X = List ℕ × Z} (map by_bytes es) k ≡ option_map by_bytes (slice_get es k)
+  texts_at [] k = refl
+  texts_at (e ∷ es) zero = refl
+  texts_at (e ∷ es) (suc k) = texts_at es k
+
+  pub tag_at : (es : List (String Y × X)) (k : ℕ) → option_map (λ (p : List ℕ × Z). p.0) (slice_get (map by_bytes es) k) ≡ option_map (λ (p : String Y × X). string_bytes p.0) (slice_get es k)
+  tag_at [] k = refl
+  tag_at (e ∷ es) zero = refl
+  tag_at (e ∷ es) (suc k) = tag_at es k

@@ -1,5 +1,5 @@
 //! The entry of a name.
-ghost use Rattle.std.specs.Prelude.{◌≡◌, ◌↔◌, true, false, IfOk, IfSome, OnOk, OnErr, option_copied, option_map};
+ghost use Rattle.std.specs.Prelude.{◌≡◌, ◌↔◌, true, false, IfOk, IfSome, OnOk, OnErr, option_copied, option_map, slice_get};
 ghost use Rattle.std.specs.Bool.{OnTrue, OnFalse};
 ghost use Rattle.wl_expr.specs.Stamped.{plain};
 ghost use Rattle.wl_rules.specs.Attributes.{AttributeSet};
@@ -207,5 +207,25 @@ impl Entry {
         ensures { result ≡ is_off self.now.entry tag.now }
     {
         self.off.contains_key(tag)
+    }
+
+    /// The tag and the text of the k-th message.
+    pub(crate) fn message_at(&self, k: usize) -> Option<(&str, &str)>
+        ensures { option_map (λ p. (p.0.now, p.1.now)) result ≡ slice_get self.now.entry.messages k }
+    {
+        match self.messages.iter().nth(k) {
+            None => None,
+            Some((tag, text)) => Some((tag.as_str(), text.as_str())),
+        }
+    }
+
+    /// The k-th tag that is off.
+    pub(crate) fn off_at(&self, k: usize) -> Option<&str>
+        ensures { option_map (λ r. r.now) result ≡ option_map (λ p. p.0) (slice_get self.now.entry.off k) }
+    {
+        match self.off.iter().nth(k) {
+            None => None,
+            Some((tag, _)) => Some(tag.as_str()),
+        }
     }
 }

@@ -12,6 +12,7 @@ mod rule;
 mod rule_list;
 mod rule_set;
 mod rule_sets;
+mod start;
 mod store;
 mod table;
 
