@@ -25,6 +25,9 @@ use std::marker::Model;
 use wl_expr::Expr;
 use wl_ports::{Ledger, Memory, Work};
 
+#[cfg(test)]
+mod tests;
+
 /// The definitions of all names. Each name that was met has an index, which stays, and an entry. Each change of an entry
 /// draws a version for it, greater than all before, up to the greatest number of 64 bits, which is given again and again.
 #[derive(Drop)]
@@ -297,6 +300,7 @@ impl Model for Saved {
 }
 
 /// What the store has of a name, but for its rules.
+#[derive(Drop)]
 pub struct EntryView<'a> {
     index: u64,
     entry: &'a Entry,
