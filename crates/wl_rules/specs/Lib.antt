@@ -7,6 +7,7 @@ pub mod StampedRules
 pub mod Stored
 pub mod Changes
 pub mod Start
+pub mod Tags
 -- What serves the proofs.
 pub mod AttributesView
 pub mod Forms

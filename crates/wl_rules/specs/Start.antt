@@ -4,8 +4,8 @@ use Rattle.wl_expr.specs.Stamped.{unstamped}
 use Rattle.wl_expr.specs.Tree.{symbol}
 use Rattle.wl_expr.specs.Words.{Name, Bytes, natural}
 use Rattle.wl_rules.specs.Attributes.{AttributeSet, no_attributes, with, with_all}
-use Rattle.wl_rules.specs.Entries.{Entry, Definitions, empty_entry, no_rules, put_message}
-use Rattle.wl_rules.specs.Stored.{Slot, Stored, definitions}
+use Rattle.wl_rules.specs.Entries.{Entry, empty_entry, no_rules, put_message}
+use Rattle.wl_rules.specs.Stored.{Slot, Stored}
 use Rattle.wl_rules.specs.declared.attribute.Attribute.{Attribute}
 use Rattle.wl_rules.specs.declared.attribute.Attribute.TheVariants.{Flat, HoldAll, HoldAllComplete, HoldFirst, HoldRest, Listable, NumericFunction, OneIdentity, Orderless, Protected, SequenceHold}
 use Rattle.wl_rules.specs.declared.rule.Rule.{Rule}
@@ -112,6 +112,3 @@ slot_of_limit x n = record { version = 0; entry = with_texts x message_rows (rec
 -- the symbols in the order of the tables, each at its place; no version is drawn yet
 abbrev pub start_store : Stored
 start_store = record { rows = symbols_in symbol_rows ++ map (λ l. (l.0, slot_of_limit l.0 l.1)) limit_rows; drawn = 0 }
-
-abbrev pub start : Definitions
-start = definitions start_store

@@ -7,6 +7,7 @@ ghost use Rattle.wl_rules.specs.Entries.{of_kind, put_rule, remove_rule, cleared
 ghost use Rattle.wl_rules.specs.RuleLists.{has_left};
 ghost use Rattle.wl_rules.specs.StampedRules.{left_of};
 ghost use Rattle.wl_rules.specs.Stored.{new_slot};
+ghost use Rattle.wl_rules.specs.Tags.{AreByTag};
 
 use crate::attribute::{Attribute, Attributes};
 use crate::rule::{Rule, RuleKind};
@@ -211,7 +212,8 @@ impl Entry {
 
     /// The tag and the text of the k-th message.
     pub(crate) fn message_at(&self, k: usize) -> Option<(&str, &str)>
-        ensures { option_map (λ p. (p.0.now, p.1.now)) result ≡ slice_get self.now.entry.messages k }
+        ensures value { option_map (λ p. (p.0.now, p.1.now)) result ≡ slice_get self.now.entry.messages k }
+        ensures sorted { AreByTag self.now.entry.messages }
     {
         match self.messages.iter().nth(k) {
             None => None,
@@ -221,7 +223,8 @@ impl Entry {
 
     /// The k-th tag that is off.
     pub(crate) fn off_at(&self, k: usize) -> Option<&str>
-        ensures { option_map (λ r. r.now) result ≡ option_map (λ p. p.0) (slice_get self.now.entry.off k) }
+        ensures value { option_map (λ r. r.now) result ≡ option_map (λ p. p.0) (slice_get self.now.entry.off k) }
+        ensures sorted { AreByTag self.now.entry.off }
     {
         match self.off.iter().nth(k) {
             None => None,

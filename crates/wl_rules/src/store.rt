@@ -11,6 +11,7 @@ ghost use Rattle.wl_rules.specs.RuleLists.{has_left};
 ghost use Rattle.wl_rules.specs.StampedRules.{left_of, plain_rule};
 ghost use Rattle.wl_rules.specs.Start.{start_store};
 ghost use Rattle.wl_rules.specs.Stored.{IsIndex, name_at, version_at, entry_at, definitions, changed, next_version};
+ghost use Rattle.wl_rules.specs.Tags.{AreByTag};
 
 use crate::attribute::Attributes;
 use crate::entry::Entry;
@@ -351,14 +352,16 @@ impl<'a> EntryView<'a> {
 
     /// The tag and the text of the k-th message, from 0, in the order of the tags' bytes.
     pub fn message_at(&self, k: usize) -> Option<(&str, &str)>
-        ensures { option_map (λ p. (p.0.now, p.1.now)) result ≡ slice_get self.now.messages k }
+        ensures value { option_map (λ p. (p.0.now, p.1.now)) result ≡ slice_get self.now.messages k }
+        ensures sorted { AreByTag self.now.messages }
     {
         self.entry.message_at(k)
     }
 
     /// The k-th tag that is switched off, from 0, in the order of the tags' bytes.
     pub fn off_at(&self, k: usize) -> Option<&str>
-        ensures { option_map (λ r. r.now) result ≡ option_map (λ p. p.0) (slice_get self.now.off k) }
+        ensures value { option_map (λ r. r.now) result ≡ option_map (λ p. p.0) (slice_get self.now.off k) }
+        ensures sorted { AreByTag self.now.off }
     {
         self.entry.off_at(k)
     }

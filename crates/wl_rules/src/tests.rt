@@ -47,6 +47,11 @@ fn number(rt: &impl Abort, alloc: Global, n: i128) -> Result<Expr, Fail> {
     Ok(Expr::num(alloc, Num::int(n).expect(rt, "no number"))?)
 }
 
+/// A new store. What it holds is left to the tests.
+fn started(alloc: Global) -> Result<Store, Fail> {
+    Ok(Store::new(alloc)?)
+}
+
 fn put(
     rt: &impl Abort,
     alloc: Global,
@@ -116,7 +121,7 @@ const FIVE: [(&str, i128); 4] = [
 
 #[test]
 fn specific_rules_stand_first(rt: HostRuntime) -> Result<(), Fail> {
-    let mut store = Store::new(rt.alloc())?;
+    let mut store = started(rt.alloc())?;
     put_five(&rt, rt.alloc(), &mut store)?;
     let rules = down_rules(&mut store, "f")?;
     let rows = FIVE;
@@ -125,7 +130,7 @@ fn specific_rules_stand_first(rt: HostRuntime) -> Result<(), Fail> {
 
 #[test]
 fn snapshots_stay(rt: HostRuntime) -> Result<(), Fail> {
-    let mut store = Store::new(rt.alloc())?;
+    let mut store = started(rt.alloc())?;
     put_five(&rt, rt.alloc(), &mut store)?;
     let rules = down_rules(&mut store, "f")?;
     put(&rt, rt.alloc(), &mut store, "f", "f 1 /1", 6)?;
@@ -143,7 +148,7 @@ fn snapshots_stay(rt: HostRuntime) -> Result<(), Fail> {
 
 #[test]
 fn restored_rules_have_a_greater_version(rt: HostRuntime) -> Result<(), Fail> {
-    let mut store = Store::new(rt.alloc())?;
+    let mut store = started(rt.alloc())?;
     put_five(&rt, rt.alloc(), &mut store)?;
     assert_eq!(rt; version(&mut store, "f")?, 5);
     let index = store.index_of("f")?;
@@ -160,7 +165,7 @@ fn restored_rules_have_a_greater_version(rt: HostRuntime) -> Result<(), Fail> {
 
 #[test]
 fn refused_changes_change_nothing(rt: HostRuntime) -> Result<(), Fail> {
-    let mut store = Store::new(rt.alloc())?;
+    let mut store = started(rt.alloc())?;
     let index = store.index_of("Plus")?;
     match store.put_message(index, "tag", "text") {
         Err(StoreFault::Protected) => {}
@@ -204,7 +209,7 @@ fn letters(alloc: Global, attributes: Attributes) -> Result<String, Fail> {
 
 #[test]
 fn attributes_at_the_start(rt: HostRuntime) -> Result<(), Fail> {
-    let store = Store::new(rt.alloc())?;
+    let store = started(rt.alloc())?;
     let mut work = Work::new(NoLedger);
     for (name, wanted) in [
         ("Plus", "FLNIOP"),
@@ -244,7 +249,7 @@ fn attributes_at_the_start(rt: HostRuntime) -> Result<(), Fail> {
 
 #[test]
 fn positions_at_the_start(rt: HostRuntime) -> Result<(), Fail> {
-    let mut store = Store::new(rt.alloc())?;
+    let mut store = started(rt.alloc())?;
     for (name, index) in [
         ("Plus", 0),
         ("Times", 1),
@@ -261,7 +266,7 @@ fn positions_at_the_start(rt: HostRuntime) -> Result<(), Fail> {
 
 #[test]
 fn messages_stand_by_their_tags(rt: HostRuntime) -> Result<(), Fail> {
-    let mut store = Store::new(rt.alloc())?;
+    let mut store = started(rt.alloc())?;
     for tag in ["b", "a"] {
         let index = store.index_of("f")?;
         store.put_message(index, tag, "text")?;
