@@ -1,5 +1,6 @@
 //! What a store starts with.
 ghost use Rattle.std.specs.Prelude.{◌≡◌, [], IfOk, OnOk, map};
+ghost use Rattle.wl_expr.specs.Tree.{IsWithinLimits, symbol};
 ghost use Rattle.wl_ports.specs.Name.{IsName};
 ghost use Rattle.wl_rules.specs.Start.{MessageText, start_store, slot_of_symbol, protected_with, with_texts, message_rows, symbol_rows, limit_rule, slot_of_limit};
 ghost use Rattle.wl_rules.specs.Starting.{with_row, with_symbols, with_symbol_rows};
@@ -10,7 +11,7 @@ use crate::rule::{Rule, RuleKind};
 use crate::table::Table;
 use std::alloc::Global;
 use wl_exact::Num;
-use wl_expr::Expr;
+use wl_expr::{Expr, ExprFault};
 use wl_ports::Memory;
 
 /// Symbols that are Protected, and the attributes that they have besides.
@@ -406,7 +407,8 @@ fn symbol_entry(alloc: Global, name: &str, attributes: Attributes) -> Result<Ent
 }
 
 fn put_limit(alloc: Global, table: &mut Table, name: &str, limit: u16) -> Result<(), Memory>
-    requires { IsName name.now }
+    requires name { IsName name.now }
+    requires small { IsWithinLimits (symbol name.now) }
     ensures { OnOk result (table.new ≡ with_row name.now (slot_of_limit name.now limit) table.old) }
 {
     let mut entry = Entry::empty(alloc);
@@ -417,16 +419,18 @@ fn put_limit(alloc: Global, table: &mut Table, name: &str, limit: u16) -> Result
 }
 
 fn limit_rule(alloc: Global, name: &str, limit: u16) -> Result<Rule, Memory>
-    requires { IsName name.now }
+    requires name { IsName name.now }
+    requires small { IsWithinLimits (symbol name.now) }
     ensures { IfOk result (λ r. r ≡ limit_rule name.now limit) }
 {
     let left = match Expr::symbol(alloc, name) {
         Ok(left) => left,
-        Err(_) => return Err(Memory),
+        Err(ExprFault::Memory) => return Err(Memory),
+        Err(ExprFault::Large) => unreachable!(),
     };
     let body = match Num::int(i128::from(limit)) {
         Some(number) => Expr::num(alloc, number)?,
-        None => return Err(Memory),
+        None => unreachable!(),
     };
     Ok(Rule { left, body })
 }
