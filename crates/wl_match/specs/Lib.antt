@@ -5,8 +5,11 @@ pub mod Trials
 pub mod Heads
 pub mod Followed
 pub mod Placed
-pub mod Prepared
 -- What serves the proofs.
 pub mod Sought
 pub mod Parts
 pub mod Sizes
+pub mod Runs
+pub mod Nested
+pub mod Means
+pub mod Plays

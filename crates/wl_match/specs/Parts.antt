@@ -1,7 +1,8 @@
 -- The pattern that a list of parts is. Each part names parts inside it by their places in the list, and stands behind them.
-use Rattle.std.specs.Prelude.{◌≡◌, ℕ, ◌+◌, ◌<◌, ◌≤◌, List, [], ◌∷◌, ◌++◌, length, get_or, string_bytes, Option, Some, None, option_map, ⊤}
+use Rattle.std.specs.Prelude.{◌≡◌, ℕ, ◌+◌, ◌-◌, ◌<◌, ◌≤◌, List, [], ◌∷◌, ◌++◌, length, get_or, string_bytes, Option, Some, None, option_map, ⊤}
 use Rattle.std.specs.List.{All}
 use Rattle.wl_expr.specs.Passed.{IsFrom}
+use Rattle.wl_expr.specs.Words.{natural}
 use Rattle.wl_expr.specs.Stamped.{Stamped, plain, plains, from_list}
 use Rattle.wl_match.specs.declared.flags.Flags.{Flags}
 use Rattle.wl_match.specs.declared.part.Number.{Number}
@@ -55,6 +56,14 @@ table ps (s ∷ ss) = table (ps ++ pat_of (at ps) s ∷ []) ss
 -- the pattern at a place of a list of parts
 unfoldable pub pat : List Part → ℕ → Pat
 pat ss i = at (table [] ss) i
+
+-- the pattern of the last part
+abbrev pub whole : List Part → Pat
+whole ss = pat ss (length ss - 1)
+
+-- the first two parts are 0 and 1
+abbrev pub HasDefaults : List Part → Type 0
+HasDefaults ss = (pat ss 0 ≡ exactly (natural 0)) × (pat ss 1 ≡ exactly (natural 1))
 
 -- the expressions that a part keeps
 abbrev pub some_kept : Option Stamped → List Stamped

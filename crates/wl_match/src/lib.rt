@@ -1,14 +1,24 @@
 //! The leaves of a match search: what a pattern may bind in a subject, in order.
 #![tactic(auto)]
 
+mod cuts;
 mod flags;
 mod forms;
 mod heads;
 mod items;
 pub mod laws;
+mod leaf;
+mod lent;
+mod looks;
 mod part;
 mod pattern;
+mod places;
 mod size;
+mod sorts;
+mod stack;
+mod taken;
+mod walk;
+mod walking;
 
 pub use flags::Flags;
 pub use heads::{head_at, head_count};

@@ -1,12 +1,16 @@
 //! A pattern that is ready to be matched.
-ghost use Rattle.std.specs.Prelude.{◌≡◌, ◌+◌, ◌≤◌, false, List, length, map, IfOk, IfSome, MatchOption};
+ghost use Rattle.std.specs.Prelude.{◌≡◌, ◌+◌, ◌-◌, ◌≤◌, pos, ◌∷◌, [], false, List, length, map, IfOk, IfSome, MatchOption};
 ghost use Rattle.std.specs.List.{All};
 ghost use Rattle.wl_expr.specs.Passed.{IsFrom};
-ghost use Rattle.wl_expr.specs.Stamped.{Stamped, plain, plains, from_list};
+ghost use Rattle.wl_expr.specs.Stamped.{Stamped, num, plain, plains, from_list};
 ghost use Rattle.wl_expr.specs.Tree.{node};
 ghost use Rattle.wl_expr.specs.Words.{Name, is_node};
 ghost use Rattle.wl_match.specs.Heads.{head_symbol, heads, heads_above, heads_in};
-ghost use Rattle.wl_match.specs.Parts.{Builds, BuildsAll, Puts};
+ghost use Rattle.wl_exact.specs.Fraction.{of_int};
+ghost use Rattle.wl_match.specs.Means.{Looked};
+ghost use Rattle.wl_match.specs.Parts.{Builds, BuildsAll, Puts, kept, pat, whole};
+ghost use Rattle.wl_match.specs.Sizes.{size};
+ghost use Rattle.wl_match.specs.declared.part.Part.TheVariants.{Exactly};
 ghost use Rattle.wl_match.specs.Pattern.{pattern};
 ghost use Rattle.wl_match.specs.Placed.{flags_at, placed};
 ghost use Rattle.wl_match.specs.declared.flags.Flags.{Flags};
@@ -17,6 +21,7 @@ use crate::part::Part;
 use crate::size::{Size, all_sizes};
 use std::alloc::Global;
 use std::marker::Model;
+use wl_exact::Num;
 use wl_expr::{Expr, Look};
 use wl_ports::Memory;
 
@@ -29,34 +34,92 @@ pub struct Pattern {
 }
 
 impl Model for Pattern {
-    ghost use Rattle.std.specs.Prelude.{◌≡◌, ◌-◌, length};
-    ghost use Rattle.wl_match.specs.Prepared.{Prepared, prepared_code};
-    ghost use Rattle.wl_match.specs.Parts.{IsBehind, kept, pat};
+    ghost use Rattle.std.specs.Prelude.{◌≡◌, List};
+    ghost use Rattle.wl_match.specs.declared.part.Part.{Part};
+    ghost use Rattle.wl_match.specs.Parts.{HasDefaults, IsBehind};
     ghost use Rattle.wl_match.specs.Sizes.{sizes_of};
 
-    ghost Value = { Prepared };
+    ghost Value = { List Part };
 
-    ghost coded = { prepared_code };
+    ghost use Rattle.std.specs.Coded.{codes};
+    ghost use Rattle.wl_expr.specs.contracts.expr.Expr as expr;
 
-    ghost view = { λ q. record { pattern = pat q.parts.items (length q.parts.items - 1); kept = kept q.parts.items } };
+    ghost coded = { Prim.hlevel (codes, expr.the_row.coded) };
 
-    ghost invariant = { λ q. IsBehind 0 q.parts.items × (q.sizes.items ≡ sizes_of q.parts.items) };
+    ghost view = { λ q. q.parts.items };
+
+    ghost invariant = { λ q. IsBehind 0 q.parts.items × (HasDefaults q.parts.items × (q.sizes.items ≡ sizes_of q.parts.items)) };
 }
 
 impl Pattern {
+    /// Where the default of a sum stands.
+    pub(crate) const ZERO: usize = 0;
+    /// Where the default of a product stands.
+    pub(crate) const ONE: usize = 1;
+
     /// The pattern that the expression is, with the flags of the symbols that are heads of its nodes, in their order.
     pub fn prepare(alloc: Global, p: &Expr, flags: &[Flags]) -> Result<Pattern, Memory>
         requires { length flags.now ≡ length (heads (plain p.now)) }
-        ensures placed { IfOk result (λ q. q.pattern ≡ placed flags.now 0 (plain p.now)) }
+        ensures placed { IfOk result (λ q. whole q ≡ placed flags.now 0 (plain p.now)) }
         ensures named { (f : Name → Flags) → flags.now ≡ map f (heads (plain p.now))
-            → IfOk result (λ q. q.pattern ≡ pattern f (plain p.now)) }
-        ensures passed { IfOk result (λ q. (ms : List Stamped) → IsFrom ms p.now → All (IsFrom ms) q.kept) }
+            → IfOk result (λ q. whole q ≡ pattern f (plain p.now)) }
+        ensures passed { IfOk result (λ q. (ms : List Stamped) → IsFrom ms p.now → All (IsFrom ms) (kept q)) }
     {
-        let mut parts = Vec::new(alloc);
+        let mut parts = defaults(alloc)?;
         build(alloc, p, flags, 0, &mut parts)?;
         let sizes = all_sizes(alloc, parts.as_slice())?;
         Ok(Pattern { parts, sizes })
     }
+
+    /// The place of the whole pattern.
+    pub(crate) fn top(&self) -> usize
+        ensures { result ≡ length self.now - 1 }
+    {
+        self.parts.len().saturating_sub(1)
+    }
+
+    pub(crate) fn count(&self) -> usize
+        ensures { result ≡ length self.now }
+    {
+        self.parts.len()
+    }
+
+    pub(crate) fn part(&self, i: usize) -> Option<&Part>
+        ensures { Looked self.now i result }
+    {
+        let parts = self.parts.as_slice();
+        if i < parts.len() {
+            Some(&parts[i])
+        } else {
+            None
+        }
+    }
+
+    pub(crate) fn size(&self, i: usize) -> Size
+        ensures { result ≡ size (pat self.now i) }
+    {
+        let sizes = self.sizes.as_slice();
+        if i < sizes.len() { sizes[i] } else { Size::ONE }
+    }
+}
+
+fn integer(alloc: Global, n: i128) -> Result<Part, Memory>
+    ensures { IfOk result (λ s. s ≡ Exactly (num (of_int n))) }
+{
+    match Num::int(n) {
+        Some(n) => Ok(Part::Exactly(Expr::num(alloc, n)?)),
+        None => Err(Memory),
+    }
+}
+
+/// The parts that stand before all others: what is absent in a sum, and in a product.
+fn defaults(alloc: Global) -> Result<Vec<Part>, Memory>
+    ensures { IfOk result (λ v. v.items ≡ Exactly (num (of_int (pos 0))) ∷ Exactly (num (of_int (pos 1))) ∷ []) }
+{
+    let mut parts = Vec::new(alloc);
+    parts.push(integer(alloc, 0)?)?;
+    parts.push(integer(alloc, 1)?)?;
+    Ok(parts)
 }
 
 /// The place of a part that was built, and how many heads stand before and in what it was built from.

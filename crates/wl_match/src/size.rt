@@ -16,7 +16,7 @@ pub(crate) struct Size {
 }
 
 impl Size {
-    const ONE: Size = Size {
+    pub const ONE: Size = Size {
         need: 1,
         most: Some(1),
     };

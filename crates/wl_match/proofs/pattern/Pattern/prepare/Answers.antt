@@ -1,6 +1,8 @@
-use Rattle.std.proofs.Common.{◌∙◌}
+use Rattle.std.proofs.Common.{◌∙◌, ap}
 use Rattle.wl_expr.specs.Stamped.{plain}
-use Rattle.wl_match.proofs.PartsLemmas.{kept_from_none, root_is}
+use Rattle.wl_match.proofs.PartsLemmas.{root_is}
+use Rattle.wl_match.proofs.PatternLemmas.{kept_defaults, default_behind, default_parts}
+use Rattle.wl_match.specs.Sizes.{sizes_of}
 use Rattle.wl_match.proofs.PlacedLemmas.{placed_named}
 use Rattle.wl_match.proofs.pattern.Pattern.prepare.Goals as goal
 
@@ -9,4 +11,7 @@ returns-clause-named c f e =
     root_is c.args.flags.now 0 c.args.p.now _ _ _ c.build.new.parts.items c.in_ok-build.ensures ∙ placed_named f c.args.flags.now (plain c.args.p.now) e
 
 pub returns-clause-passed : goal.returns-clause-passed
-returns-clause-passed c ms f = c.in_ok-build.ensures.passed ms (kept_from_none ms _ c.new-parts.ensures.items) f
+returns-clause-passed c ms f = c.in_ok-build.ensures.passed ms (kept_defaults ms _ c.in_ok-parts.ensures) f
+
+pub invariant_of-result : goal.invariant_of-result
+invariant_of-result c = (c.in_ok-build.ensures.behind (default_behind _ c.in_ok-parts.ensures), (default_parts _ _ c.in_ok-parts.ensures c.in_ok-build.ensures.keeps, c.in_ok-sizes.ensures ∙ ap sizes_of c.as_slice.ensures.value))
