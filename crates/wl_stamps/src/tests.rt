@@ -1,9 +1,11 @@
 //! Rows of the public calls.
-use crate::{Reads, Trial, compose, seal};
+use crate::{Reads, Trial, compose, live, seal};
 use std::alloc::Global;
 use std::process::Abort;
 use std::test::Fail;
 use wl_expr::{ReadList, Stamp};
+use wl_ports::{NoLedger, Work};
+use wl_rules::{Attributes, Store};
 
 fn stamp(
     alloc: Global,
@@ -82,5 +84,32 @@ fn parts_that_do_not_fit(rt: HostRuntime) -> Result<(), Fail> {
     let sealed = seal(alloc, &trial)?;
     has_reads(&rt, &sealed, &[(1, 5)]);
     assert_eq!(rt; (sealed.steps, sealed.depth, sealed.turns), (10, 2, 3));
+    Ok(())
+}
+
+/// Whether a stamp that read `f` at this version is live in the store.
+fn is_live(store: &mut Store, alloc: Global, version: u64) -> Result<bool, Fail> {
+    let index = store.index_of("f")?;
+    let mut reads = ReadList::new(alloc);
+    reads.push(index, version)?;
+    let stamp = Stamp {
+        reads,
+        steps: 0,
+        depth: 0,
+        turns: 0,
+    };
+    Ok(live(&stamp, store, &mut Work::new(NoLedger)))
+}
+
+#[test]
+fn live_until_a_change(rt: HostRuntime) -> Result<(), Fail> {
+    let alloc = rt.alloc();
+    let mut store = Store::new(alloc)?;
+    assert!(rt; is_live(&mut store, alloc, 0)?);
+    assert!(rt; !is_live(&mut store, alloc, 1)?);
+    let index = store.index_of("f")?;
+    store.set_attributes(index, Attributes::none());
+    assert!(rt; !is_live(&mut store, alloc, 0)?);
+    assert!(rt; is_live(&mut store, alloc, 1)?);
     Ok(())
 }
