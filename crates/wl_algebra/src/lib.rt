@@ -1,0 +1,14 @@
+//! The built-in functions of arithmetic, as rows that look at their elements alone.
+#![tactic(auto)]
+
+mod answer;
+mod comparisons;
+mod element;
+mod kind;
+mod numbers;
+mod questions;
+
+pub use comparisons::Relation;
+pub use kind::{Kind, apply};
+pub use numbers::Measure;
+pub use questions::Question;
