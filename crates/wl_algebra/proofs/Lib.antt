@@ -2,5 +2,8 @@
 pub mod Faults
 mod Apartness
 mod Chains
+mod FirstTimes
+mod Growth
 mod Ratios
+mod Splices
 mod Splits

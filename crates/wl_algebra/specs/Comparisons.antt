@@ -1,5 +1,5 @@
 -- Equal and its relatives, Less and its relatives, SameQ, UnsameQ, Not. Reference pages of these.
-use Rattle.std.specs.Prelude.{Bool, true, false, ◌&&◌, ◌||◌, not, List, [], ◌∷◌, Option, Some, None, codes, bytes_eq}
+use Rattle.std.specs.Prelude.{Bool, true, false, ◌&&◌, ◌||◌, not, List, [], ◌∷◌, ◌++◌, Option, Some, None, codes, bytes_eq}
 use Rattle.std.specs.declared.cmp.Ordering.{Ordering}
 use Rattle.std.specs.declared.cmp.Ordering.TheVariants.{Less, Equal, Greater}
 use Rattle.wl_exact.specs.Fraction.{Fraction}
@@ -146,10 +146,13 @@ inequality_row es = unchanged
 
 -- ---- SameQ, UnsameQ, Not
 
--- whether no two are identical
+-- whether no two are identical: each differs from those before it
+abbrev pub all_new : List Tree → List Tree → Bool
+all_new met [] = true
+all_new met (t ∷ ts) = not (is_among t met) && all_new (met ++ t ∷ []) ts
+
 abbrev pub all_differ : List Tree → Bool
-all_differ [] = true
-all_differ (t ∷ ts) = not (is_among t ts) && all_differ ts
+all_differ es = all_new [] es
 
 abbrev pub same_row : List Tree → Applied
 same_row es = gives (truth (all_neighbours same es))

@@ -5,9 +5,12 @@ use Rattle.wl_exact.specs.Fraction.{Fraction}
 use Rattle.wl_expr.specs.Tree.{Tree}
 use Rattle.wl_expr.specs.Words.{is_int, is_number, is_text, is_list, is_true}
 use Rattle.wl_algebra.specs.Comparisons as comparison
-use Rattle.wl_algebra.specs.Comparisons.{equal_row, unequal_row, comparison_row, inequality_row, same_row, not_row}
+use Rattle.wl_algebra.specs.Comparisons.{equal_row, unequal_row, comparison_row, inequality_row, same_row, unsame_row, not_row}
+use Rattle.wl_algebra.specs.Extremes.{best_of_spliced}
+use Rattle.wl_algebra.specs.Factorials.{factorial_row}
 use Rattle.wl_algebra.specs.Numbers.{of_number, absolute, sign, ceiling, numerator, denominator, of_pair, modulo, quotient, rational, gcd_row}
 use Rattle.wl_algebra.specs.Questions.{question, is_even, is_odd, is_atom}
+use Rattle.wl_algebra.specs.Standings.{better_by}
 use Rattle.wl_algebra.specs.Table.{Row}
 use Rattle.wl_algebra.specs.declared.numbers.Measure.{Measure}
 use Rattle.wl_algebra.specs.declared.numbers.Measure.TheVariants as measure
@@ -16,7 +19,7 @@ use Rattle.wl_algebra.specs.declared.questions.Question.TheVariants as ask
 use Rattle.wl_algebra.specs.declared.comparisons.Relation.{Relation}
 use Rattle.wl_algebra.specs.declared.comparisons.Relation.TheVariants as relation
 use Rattle.wl_algebra.specs.declared.kind.Kind as kind
-use Rattle.wl_algebra.specs.declared.kind.Kind.TheVariants.{Measure as Of, Mod, Quotient, Rational, Gcd, Question as Asked, Equal, Unequal, Comparison, Inequality, SameQ, Not}
+use Rattle.wl_algebra.specs.declared.kind.Kind.TheVariants.{Measure as Of, Mod, Quotient, Rational, Gcd, Extreme as Best, Factorial, Question as Asked, Equal, Unequal, Comparison, Inequality, SameQ, UnsameQ, Not}
 
 abbrev pub measure_by : Measure → Fraction → Fraction
 measure_by measure.Absolute = absolute
@@ -50,10 +53,13 @@ row_by Mod = of_pair modulo
 row_by Quotient = of_pair quotient
 row_by Rational = of_pair rational
 row_by Gcd = gcd_row
+row_by (Best e) = best_of_spliced (better_by e)
+row_by Factorial = factorial_row
 row_by (Asked q) = question (question_by q)
 row_by Equal = equal_row
 row_by Unequal = unequal_row
 row_by (Comparison r) = comparison_row (relation_by r)
 row_by Inequality = inequality_row
 row_by SameQ = same_row
+row_by UnsameQ = unsame_row
 row_by Not = not_row

@@ -1,8 +1,13 @@
 -- The definition: the rows, and which name has which.
+pub mod Spliced
 pub mod Numbers
+pub mod Extremes
+pub mod Factorials
 pub mod Questions
 pub mod Comparisons
 pub mod Table
 -- What contracts say of an answer, and the rows by their kinds.
 pub mod Answers
 pub mod Kinds
+pub mod Standings
+pub mod Ranges

@@ -4,7 +4,9 @@ use Rattle.wl_exact.specs.Arithmetic.{floor_of}
 use Rattle.wl_expr.specs.Applied.{Applied, unchanged}
 use Rattle.wl_expr.specs.Tree.{Tree}
 use Rattle.wl_expr.specs.Words.{Name, is_int, is_number, is_text, is_list, is_true}
-use Rattle.wl_algebra.specs.Comparisons.{equal_row, unequal_row, comparison_row, less, less_equal, greater, greater_equal, inequality_row, same_row, not_row}
+use Rattle.wl_algebra.specs.Comparisons.{equal_row, unequal_row, comparison_row, less, less_equal, greater, greater_equal, inequality_row, same_row, unsame_row, not_row}
+use Rattle.wl_algebra.specs.Extremes.{max_row, min_row}
+use Rattle.wl_algebra.specs.Factorials.{factorial_row}
 use Rattle.wl_algebra.specs.Numbers.{of_number, absolute, sign, ceiling, numerator, denominator, of_pair, modulo, quotient, rational, gcd_row}
 use Rattle.wl_algebra.specs.Questions.{question, is_even, is_odd, is_atom}
 
@@ -16,12 +18,12 @@ rows =
     (codes "Abs", of_number absolute) ∷ (codes "Sign", of_number sign) ∷ (codes "Floor", of_number floor_of) ∷ (codes "Ceiling", of_number ceiling)
     ∷ (codes "Numerator", of_number numerator) ∷ (codes "Denominator", of_number denominator)
     ∷ (codes "Mod", of_pair modulo) ∷ (codes "Quotient", of_pair quotient) ∷ (codes "Rational", of_pair rational)
-    ∷ (codes "GCD", gcd_row)
+    ∷ (codes "GCD", gcd_row) ∷ (codes "Max", max_row) ∷ (codes "Min", min_row) ∷ (codes "Factorial", factorial_row)
     ∷ (codes "IntegerQ", question is_int) ∷ (codes "EvenQ", question is_even) ∷ (codes "OddQ", question is_odd) ∷ (codes "NumberQ", question is_number)
     ∷ (codes "AtomQ", question is_atom) ∷ (codes "StringQ", question is_text) ∷ (codes "ListQ", question is_list) ∷ (codes "TrueQ", question is_true)
     ∷ (codes "Equal", equal_row) ∷ (codes "Unequal", unequal_row) ∷ (codes "Less", comparison_row less) ∷ (codes "LessEqual", comparison_row less_equal)
     ∷ (codes "Greater", comparison_row greater) ∷ (codes "GreaterEqual", comparison_row greater_equal) ∷ (codes "Inequality", inequality_row)
-    ∷ (codes "SameQ", same_row) ∷ (codes "Not", not_row) ∷ []
+    ∷ (codes "SameQ", same_row) ∷ (codes "UnsameQ", unsame_row) ∷ (codes "Not", not_row) ∷ []
 
 abbrev pub row_in : Name → List (Name × Row) → Option Row
 row_in x [] = None

@@ -1,17 +1,19 @@
 //! `Equal` and its relatives, `Less` and its relatives, `SameQ`, `UnsameQ` and `Not`.
-ghost use Rattle.std.specs.Prelude.{◌≡◌, List, option_map};
+ghost use Rattle.std.specs.Prelude.{◌≡◌, IfOk, List, option_map};
 ghost use Rattle.wl_exact.specs.Arithmetic.{fraction_cmp};
 ghost use Rattle.wl_algebra.specs.Answers.{IsAnswer, IsPassed, trees};
-ghost use Rattle.wl_algebra.specs.Comparisons.{all_neighbours, some_neighbours, are_apart, some_apart, equal_row, unequal_row, comparison_row, relation_of, inequality_row, same_row, unsame_row, not_row};
+ghost use Rattle.wl_algebra.specs.Comparisons.{all_differ, all_neighbours, some_neighbours, are_apart, some_apart, equal_row, unequal_row, comparison_row, relation_of, inequality_row, same_row, unsame_row, not_row};
 ghost use Rattle.wl_algebra.specs.Kinds.{relation_by};
 ghost use Rattle.wl_expr.specs.Same.{same};
 ghost use Rattle.wl_expr.specs.Stamped.{Stamped, from_list, plain, plains};
 
 use crate::answer::{give_truth, stay};
 use crate::element::{are_same, is_symbol, number};
+use indexmap::IndexSet;
 use std::alloc::Global;
 use wl_exact::Num;
 use wl_expr::{Applied, Expr, ExprFault, Look};
+use wl_ports::Memory;
 
 /// How two numbers may stand to each other.
 #[derive(Clone, Copy)]
@@ -134,6 +136,29 @@ pub(crate) fn same_row(alloc: Global, args: &[Expr]) -> Result<Applied, ExprFaul
     ensures passed { (ms : List Stamped) → IsPassed ms result }
 {
     give_truth(alloc, all_same(args))
+}
+
+/// Whether no two are the same.
+#[tactic(auto, using(crate::proofs::FirstTimes::met_already, crate::proofs::FirstTimes::met_newly))]
+fn all_differ(alloc: Global, args: &[Expr]) -> Result<bool, Memory>
+    ensures { IfOk result (λ b. b ≡ all_differ (trees args.now)) }
+{
+    let mut met = IndexSet::new(alloc);
+    for arg in args {
+        let is_new = met.insert(arg.copy()?)?;
+        if !is_new {
+            return Ok(false);
+        }
+    }
+    Ok(true)
+}
+
+#[tactic(auto, using(crate::proofs::Faults::memory_answers))]
+pub(crate) fn unsame_row(alloc: Global, args: &[Expr]) -> Result<Applied, ExprFault>
+    ensures answer { IsAnswer (unsame_row (trees args.now)) result }
+    ensures passed { (ms : List Stamped) → IsPassed ms result }
+{
+    give_truth(alloc, all_differ(alloc, args)?)
 }
 
 pub(crate) fn not_row(alloc: Global, args: &[Expr]) -> Result<Applied, ExprFault>

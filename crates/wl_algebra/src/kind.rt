@@ -8,8 +8,10 @@ ghost use Rattle.wl_expr.specs.Stamped.{Stamped};
 
 use crate::answer::stay;
 use crate::comparisons::{
-    Relation, comparison_row, equal_row, inequality_row, not_row, same_row, unequal_row,
+    Relation, comparison_row, equal_row, inequality_row, not_row, same_row, unequal_row, unsame_row,
 };
+use crate::extremes::{Extreme, extreme_row};
+use crate::factorials::factorial_row;
 use crate::numbers::{Measure, gcd_row, modulo_row, number_row, quotient_row, rational_row};
 use crate::questions::{Question, question_row};
 use std::alloc::Global;
@@ -24,6 +26,8 @@ pub enum Kind {
     Quotient,
     Rational,
     Gcd,
+    Extreme(Extreme),
+    Factorial,
     /// A question about one element.
     Question(Question),
     Equal,
@@ -32,6 +36,7 @@ pub enum Kind {
     Comparison(Relation),
     Inequality,
     SameQ,
+    UnsameQ,
     Not,
 }
 
@@ -51,6 +56,9 @@ impl Kind {
             "Quotient" => Some(Kind::Quotient),
             "Rational" => Some(Kind::Rational),
             "GCD" => Some(Kind::Gcd),
+            "Max" => Some(Kind::Extreme(Extreme::Greatest)),
+            "Min" => Some(Kind::Extreme(Extreme::Least)),
+            "Factorial" => Some(Kind::Factorial),
             "IntegerQ" => Some(Kind::Question(Question::Integer)),
             "EvenQ" => Some(Kind::Question(Question::Even)),
             "OddQ" => Some(Kind::Question(Question::Odd)),
@@ -67,6 +75,7 @@ impl Kind {
             "GreaterEqual" => Some(Kind::Comparison(Relation::GreaterEqual)),
             "Inequality" => Some(Kind::Inequality),
             "SameQ" => Some(Kind::SameQ),
+            "UnsameQ" => Some(Kind::UnsameQ),
             "Not" => Some(Kind::Not),
             _ => None,
         }
@@ -94,12 +103,15 @@ fn row(kind: Kind, alloc: Global, args: &[Expr]) -> Result<Applied, ExprFault>
         Kind::Quotient => quotient_row(alloc, args),
         Kind::Rational => rational_row(alloc, args),
         Kind::Gcd => gcd_row(alloc, args),
+        Kind::Extreme(extreme) => extreme_row(alloc, extreme, args),
+        Kind::Factorial => factorial_row(alloc, args),
         Kind::Question(asked) => question_row(alloc, asked, args),
         Kind::Equal => equal_row(alloc, args),
         Kind::Unequal => unequal_row(alloc, args),
         Kind::Comparison(relation) => comparison_row(alloc, relation, args),
         Kind::Inequality => inequality_row(alloc, args),
         Kind::SameQ => same_row(alloc, args),
+        Kind::UnsameQ => unsame_row(alloc, args),
         Kind::Not => not_row(alloc, args),
     }
 }

@@ -4,11 +4,14 @@
 mod answer;
 mod comparisons;
 mod element;
+mod extremes;
+mod factorials;
 mod kind;
 mod numbers;
 mod questions;
 
 pub use comparisons::Relation;
+pub use extremes::Extreme;
 pub use kind::{Kind, apply};
 pub use numbers::Measure;
 pub use questions::Question;

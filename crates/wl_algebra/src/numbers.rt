@@ -34,7 +34,7 @@ fn only_number(args: &[Expr]) -> Option<Num>
 }
 
 /// The whole number, which is in range.
-fn whole(n: i128) -> Num
+pub(crate) fn whole(n: i128) -> Num
     requires { n ≢ negsuc (2 ^ 127 - 1) }
     ensures { result ≡ of_int n }
 {

@@ -26,3 +26,12 @@ returns-in-SameQ-clause-passed c = λ ms h. c.same_row.ensures.passed ms
 
 pub returns-in-Not-clause-passed : goal.returns-in-Not-clause-passed
 returns-in-Not-clause-passed c = λ ms h. c.not_row.ensures.passed ms
+
+pub returns-in-Extreme-clause-passed : goal.returns-in-Extreme-clause-passed
+returns-in-Extreme-clause-passed c = λ ms h. c.extreme_row.ensures.passed ms
+
+pub returns-in-Factorial-clause-passed : goal.returns-in-Factorial-clause-passed
+returns-in-Factorial-clause-passed c = λ ms h. c.factorial_row.ensures.passed ms
+
+pub returns-in-UnsameQ-clause-passed : goal.returns-in-UnsameQ-clause-passed
+returns-in-UnsameQ-clause-passed c = λ ms h. c.unsame_row.ensures.passed ms
