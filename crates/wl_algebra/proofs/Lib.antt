@@ -2,6 +2,7 @@
 pub mod Faults
 mod Apartness
 mod Chains
+mod Factors
 mod FirstTimes
 mod Growth
 mod Ratios

@@ -1,11 +1,11 @@
 -- What a row answers: the elements that it looks at, a tree that doesn't fit, and stamps that are handed on.
-use Rattle.std.specs.Prelude.{◌≡◌, ⊤, List, map, Option, Some, None, Result, Err, IfOk}
+use Rattle.std.specs.Prelude.{◌≡◌, ⊤, List, map, Option, Some, None, Result, Err, IfOk, codes}
 use Rattle.std.specs.List.{All}
 use Rattle.wl_exact.specs.Fraction.{Fraction}
 use Rattle.wl_expr.specs.Applied.{Applied, overflow, gives, noticed, plain_applied}
 use Rattle.wl_expr.specs.Passed.{IsFrom}
 use Rattle.wl_expr.specs.Stamped.{Stamped, plain}
-use Rattle.wl_expr.specs.Tree.{Tree, IsWithinLimits, num}
+use Rattle.wl_expr.specs.Tree.{Tree, IsWithinLimits, num, symbol}
 use Rattle.wl_expr.specs.Words.{overflow_form}
 use Rattle.wl_expr.specs.declared.applied.Applied as code
 use Rattle.wl_expr.specs.declared.applied.Applied.TheVariants as variant
@@ -21,6 +21,12 @@ trees ts = map plain ts
 abbrev pub number_of : Tree → Option Fraction
 number_of (num n) = Some n
 number_of t = None
+
+abbrev pub indeterminate_symbol : Tree
+indeterminate_symbol = symbol (codes "Indeterminate")
+
+abbrev pub infinity : Tree
+infinity = symbol (codes "ComplexInfinity")
 
 -- `Overflow[]`, with its message
 abbrev pub overflowed : Applied
@@ -39,6 +45,11 @@ AnswerFits a r = (plain_applied r ≡ a) × ¬ IsTooLarge a
 pub record IsAnswer (a : Applied) (r : Result code.Applied ExprFault) : Type 0 where
   pub is : IfOk r (AnswerFits a)
   pub large : r ≡ Err Large → IsTooLarge a
+
+-- the expression is this tree, and Large comes only where that doesn't fit
+pub record IsMade (t : Tree) (r : Result Stamped ExprFault) : Type 0 where
+  pub tree : IfOk r (λ e. plain e ≡ t)
+  pub large : r ≡ Err Large → ¬ IsWithinLimits t
 
 -- ---- stamps
 

@@ -3,6 +3,7 @@ pub mod Spliced
 pub mod Numbers
 pub mod Extremes
 pub mod Factorials
+pub mod Powers
 pub mod Questions
 pub mod Comparisons
 pub mod Table

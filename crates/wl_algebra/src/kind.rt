@@ -13,6 +13,7 @@ use crate::comparisons::{
 use crate::extremes::{Extreme, extreme_row};
 use crate::factorials::factorial_row;
 use crate::numbers::{Measure, gcd_row, modulo_row, number_row, quotient_row, rational_row};
+use crate::powers::power_row;
 use crate::questions::{Question, question_row};
 use std::alloc::Global;
 use wl_expr::{Applied, Expr, ExprFault};
@@ -20,6 +21,7 @@ use wl_expr::{Applied, Expr, ExprFault};
 /// A row of the table.
 #[derive(Clone, Copy)]
 pub enum Kind {
+    Power,
     /// A function of one number.
     Measure(Measure),
     Mod,
@@ -46,6 +48,7 @@ impl Kind {
         ensures { option_map row_by result ≡ row_of name.now }
     {
         match name {
+            "Power" => Some(Kind::Power),
             "Abs" => Some(Kind::Measure(Measure::Absolute)),
             "Sign" => Some(Kind::Measure(Measure::Sign)),
             "Floor" => Some(Kind::Measure(Measure::Floor)),
@@ -98,6 +101,7 @@ fn row(kind: Kind, alloc: Global, args: &[Expr]) -> Result<Applied, ExprFault>
     ensures passed { (ms : List Stamped) → AllFrom ms args.now → IsPassed ms result }
 {
     match kind {
+        Kind::Power => power_row(alloc, args),
         Kind::Measure(measure) => number_row(alloc, measure, args),
         Kind::Mod => modulo_row(alloc, args),
         Kind::Quotient => quotient_row(alloc, args),

@@ -8,6 +8,7 @@ mod extremes;
 mod factorials;
 mod kind;
 mod numbers;
+mod powers;
 mod questions;
 
 pub use comparisons::Relation;
