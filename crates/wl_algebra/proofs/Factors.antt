@@ -1,7 +1,7 @@
 -- Powers, and the powers of factors.
 use Rattle.std.proofs.Common.{◌≡◌, ◌≢◌, ◌<◌, ℕ, zero, suc, ℤ, pos, Bool, true, false, ◌&&◌, nat_eq, List, [], ◌∷◌, ◌++◌, length, get_or, Some, None, refl, sym, ap, subst, arith}
 use Rattle.std.specs.Ordering.{int_eq}
-use Rattle.wl_exact.specs.Fraction.{Fraction, of_int}
+use Rattle.wl_exact.specs.Fraction.{Fraction}
 use Rattle.wl_expr.specs.Stamped.{Stamped, plain}
 use Rattle.wl_expr.specs.Tree.{Tree, IsWithinLimits, AreSmall, num, text, symbol, node, from_list}
 use Rattle.wl_expr.specs.Words.{whole, int_of}

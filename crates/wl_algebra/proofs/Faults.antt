@@ -47,3 +47,10 @@ fault_makes t u d made r q m part h =
     let p = err_from_is_err_and r h in
     let e : r ≡ Err d = p.1 ∙ ap Err p.2 in
     subst (IsMade t) (sym e) (record { tree = tt; large = λ l. part (m.large (cc)) })
+
+pub fault_passed_on : {X Y : Type 0} (d : ExprFault) (made : Result X ExprFault) (r : Result Y ExprFault) → made ≡ Err d → IsErrAnd r (λ y. y ≡ d) → r ≡ Err Large → made ≡ Err Large
+fault_passed_on d made r m h l =
+    let p = err_from_is_err_and r h in
+    let e : r ≡ Err d = p.1 ∙ ap Err p.2 in
+    let same : d ≡ Large = cc in
+    m ∙ ap Err same

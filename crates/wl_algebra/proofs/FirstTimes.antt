@@ -3,14 +3,12 @@ use Rattle.std.proofs.Common.{◌≡◌, Bool, true, false, ◌||◌, ◌&&◌, 
 use Rattle.std.specs.List.{list_any}
 use Rattle.std.specs.Prelude.{if◌then◌else◌}
 use Rattle.indexmap.specs.IndexSet.{insert_key}
-use Rattle.wl_expr.specs.Same.{same, is_among}
+use Rattle.wl_expr.specs.Same.{is_among}
 use Rattle.wl_expr.specs.Stamped.{Stamped, plain}
 use Rattle.wl_expr.specs.Tree.{Tree}
+use Rattle.wl_algebra.specs.Alike.{alike}
 use Rattle.wl_algebra.specs.Answers.{trees}
 use Rattle.wl_algebra.specs.Comparisons.{all_new}
-
-abbrev pub alike : Stamped → Stamped → Bool
-alike a b = same (plain a) (plain b)
 
 among : (e : Stamped) (ks : List Stamped) → list_any (alike e) ks ≡ is_among (plain e) (trees ks)
 among e [] = refl

@@ -5,6 +5,8 @@ mod Chains
 mod Factors
 mod FirstTimes
 mod Growth
+mod Leftovers
 mod Ratios
 mod Splices
 mod Splits
+mod Terms

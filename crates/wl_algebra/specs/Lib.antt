@@ -4,11 +4,15 @@ pub mod Numbers
 pub mod Extremes
 pub mod Factorials
 pub mod Powers
+pub mod Joining
+pub mod Sums
 pub mod Questions
 pub mod Comparisons
 pub mod Table
 -- What contracts say of an answer, and the rows by their kinds.
 pub mod Answers
 pub mod Kinds
+pub mod Alike
 pub mod Standings
 pub mod Ranges
+pub mod SumsInside

@@ -10,13 +10,14 @@ use Rattle.wl_algebra.specs.Factorials.{factorial_row}
 use Rattle.wl_algebra.specs.Numbers.{of_number, absolute, sign, ceiling, numerator, denominator, of_pair, modulo, quotient, rational, gcd_row}
 use Rattle.wl_algebra.specs.Powers.{power_row}
 use Rattle.wl_algebra.specs.Questions.{question, is_even, is_odd, is_atom}
+use Rattle.wl_algebra.specs.Sums.{plus_row}
 
 abbrev pub Row : Type 0
 Row = List Tree → Applied
 
 abbrev pub rows : List (Name × Row)
 rows =
-    (codes "Power", power_row)
+    (codes "Plus", plus_row) ∷ (codes "Power", power_row)
     ∷ (codes "Abs", of_number absolute) ∷ (codes "Sign", of_number sign) ∷ (codes "Floor", of_number floor_of) ∷ (codes "Ceiling", of_number ceiling)
     ∷ (codes "Numerator", of_number numerator) ∷ (codes "Denominator", of_number denominator)
     ∷ (codes "Mod", of_pair modulo) ∷ (codes "Quotient", of_pair quotient) ∷ (codes "Rational", of_pair rational)

@@ -15,12 +15,14 @@ use crate::factorials::factorial_row;
 use crate::numbers::{Measure, gcd_row, modulo_row, number_row, quotient_row, rational_row};
 use crate::powers::power_row;
 use crate::questions::{Question, question_row};
+use crate::sums::plus_row;
 use std::alloc::Global;
 use wl_expr::{Applied, Expr, ExprFault};
 
 /// A row of the table.
 #[derive(Clone, Copy)]
 pub enum Kind {
+    Plus,
     Power,
     /// A function of one number.
     Measure(Measure),
@@ -48,6 +50,7 @@ impl Kind {
         ensures { option_map row_by result ≡ row_of name.now }
     {
         match name {
+            "Plus" => Some(Kind::Plus),
             "Power" => Some(Kind::Power),
             "Abs" => Some(Kind::Measure(Measure::Absolute)),
             "Sign" => Some(Kind::Measure(Measure::Sign)),
@@ -101,6 +104,7 @@ fn row(kind: Kind, alloc: Global, args: &[Expr]) -> Result<Applied, ExprFault>
     ensures passed { (ms : List Stamped) → AllFrom ms args.now → IsPassed ms result }
 {
     match kind {
+        Kind::Plus => plus_row(alloc, args),
         Kind::Power => power_row(alloc, args),
         Kind::Measure(measure) => number_row(alloc, measure, args),
         Kind::Mod => modulo_row(alloc, args),

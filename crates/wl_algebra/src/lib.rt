@@ -6,10 +6,12 @@ mod comparisons;
 mod element;
 mod extremes;
 mod factorials;
+mod joining;
 mod kind;
 mod numbers;
 mod powers;
 mod questions;
+mod sums;
 
 pub use comparisons::Relation;
 pub use extremes::Extreme;

@@ -42,12 +42,7 @@ fn power(alloc: Global, base: &Expr, exponent: &Expr) -> Result<Expr, ExprFault>
 }
 
 /// The base to the product of the exponents.
-fn power_of_power(
-    alloc: Global,
-    base: &Expr,
-    exponent: &Expr,
-    n: &Expr,
-) -> Result<Expr, ExprFault>
+fn power_of_power(alloc: Global, base: &Expr, exponent: &Expr, n: &Expr) -> Result<Expr, ExprFault>
     ensures made { IsMade (power_of_power (plain base.now) (plain exponent.now) (plain n.now)) result }
     ensures passed { (ms : List Stamped) → IsFrom ms base.now → IsFrom ms exponent.now → IsFrom ms n.now → IfOk result (IsFrom ms) }
 {
@@ -98,12 +93,7 @@ fn number_power(alloc: Global, base: &Num, n: &Num) -> Result<Applied, ExprFault
 
 /// The power of a node, where it is a power or a product.
 #[tactic(auto, using(crate::proofs::Faults::memory_answers))]
-fn node_power(
-    alloc: Global,
-    head: &Expr,
-    args: &[Expr],
-    n: &Expr,
-) -> Result<Applied, ExprFault>
+fn node_power(alloc: Global, head: &Expr, args: &[Expr], n: &Expr) -> Result<Applied, ExprFault>
     ensures answer { IsAnswer (node_power (plain head.now) (trees args.now) (plain n.now)) result }
     ensures passed { (ms : List Stamped) → AllFrom ms args.now → IsFrom ms n.now → IsPassed ms result }
 {
@@ -145,7 +135,10 @@ pub(crate) fn power_row(alloc: Global, args: &[Expr]) -> Result<Applied, ExprFau
     };
     if is_zero(base) && is_zero(exponent) {
         let power = power_of_numbers(alloc, base, exponent)?;
-        return give_noticed(Notice::Indeterminate(power), symbol(alloc, "Indeterminate")?);
+        return give_noticed(
+            Notice::Indeterminate(power),
+            symbol(alloc, "Indeterminate")?,
+        );
     }
     if is_zero(exponent) {
         return give_number(alloc, whole(1));

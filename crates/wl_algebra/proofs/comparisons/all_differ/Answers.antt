@@ -2,9 +2,10 @@ use Rattle.std.proofs.Common.{rules, ◌≡◌, ◌+◌, true, false, not, List,
 use Rattle.std.specs.List.{list_any}
 use Rattle.indexmap.specs.IndexSet.{insert_key}
 use Rattle.wl_expr.specs.Stamped.{Stamped}
+use Rattle.wl_algebra.specs.Alike.{alike}
 use Rattle.wl_algebra.specs.Answers.{trees}
 use Rattle.wl_algebra.specs.Comparisons.{all_new}
-use Rattle.wl_algebra.proofs.FirstTimes.{alike, met_already, met_newly}
+use Rattle.wl_algebra.proofs.FirstTimes.{met_already, met_newly}
 use Rattle.wl_algebra.proofs.Splits.{next_of}
 use Rattle.wl_algebra.proofs.comparisons.all_differ.Goals as goal
 

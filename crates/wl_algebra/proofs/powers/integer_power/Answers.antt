@@ -1,7 +1,7 @@
 use Rattle.std.proofs.Common.{List, sym, ap, ◌∙◌, subst}
 use Rattle.wl_expr.proofs.Parts.{to_list_plains}
 use Rattle.wl_expr.specs.Passed.{IsFrom}
-use Rattle.wl_expr.specs.Stamped.{Stamped, plain}
+use Rattle.wl_expr.specs.Stamped.{plain}
 use Rattle.wl_expr.specs.Tree.{Tree}
 use Rattle.wl_algebra.specs.Answers.{IsAnswer, trees}
 use Rattle.wl_algebra.specs.Powers.{integer_power, node_power}
