@@ -25,7 +25,7 @@ integer_nonzero (text s) n e h z = cc
 integer_nonzero (symbol s) n e h z = cc
 integer_nonzero (node g us) n e h z = cc
 
-trees_push : (ts : List Stamped) (t : Stamped) → trees (ts ++ t ∷ []) ≡ trees ts ++ plain t ∷ []
+pub trees_push : (ts : List Stamped) (t : Stamped) → trees (ts ++ t ∷ []) ≡ trees ts ++ plain t ∷ []
 trees_push [] t = refl
 trees_push (u ∷ ts) t = ap (λ us. plain u ∷ us) (trees_push ts t)
 

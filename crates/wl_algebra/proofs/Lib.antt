@@ -4,9 +4,11 @@ mod Apartness
 mod Chains
 mod Factors
 mod FirstTimes
+mod Groups
 mod Growth
 mod Leftovers
 mod Ratios
 mod Splices
 mod Splits
 mod Terms
+mod WorkedRows

@@ -10,6 +10,7 @@ use Rattle.wl_algebra.specs.Extremes.{best_of_spliced}
 use Rattle.wl_algebra.specs.Factorials.{factorial_row}
 use Rattle.wl_algebra.specs.Numbers.{of_number, absolute, sign, ceiling, numerator, denominator, of_pair, modulo, quotient, rational, gcd_row}
 use Rattle.wl_algebra.specs.Powers.{power_row}
+use Rattle.wl_algebra.specs.Products.{times_row}
 use Rattle.wl_algebra.specs.Questions.{question, is_even, is_odd, is_atom}
 use Rattle.wl_algebra.specs.Standings.{better_by}
 use Rattle.wl_algebra.specs.Sums.{plus_row}
@@ -21,7 +22,7 @@ use Rattle.wl_algebra.specs.declared.questions.Question.TheVariants as ask
 use Rattle.wl_algebra.specs.declared.comparisons.Relation.{Relation}
 use Rattle.wl_algebra.specs.declared.comparisons.Relation.TheVariants as relation
 use Rattle.wl_algebra.specs.declared.kind.Kind as kind
-use Rattle.wl_algebra.specs.declared.kind.Kind.TheVariants.{Plus, Power, Measure as Of, Mod, Quotient, Rational, Gcd, Extreme as Best, Factorial, Question as Asked, Equal, Unequal, Comparison, Inequality, SameQ, UnsameQ, Not}
+use Rattle.wl_algebra.specs.declared.kind.Kind.TheVariants.{Plus, Times, Power, Measure as Of, Mod, Quotient, Rational, Gcd, Extreme as Best, Factorial, Question as Asked, Equal, Unequal, Comparison, Inequality, SameQ, UnsameQ, Not}
 
 abbrev pub measure_by : Measure → Fraction → Fraction
 measure_by measure.Absolute = absolute
@@ -51,6 +52,7 @@ relation_by relation.Unequal = comparison.unequal
 
 abbrev pub row_by : kind.Kind → Row
 row_by Plus = plus_row
+row_by Times = times_row
 row_by Power = power_row
 row_by (Of m) = of_number (measure_by m)
 row_by Mod = of_pair modulo

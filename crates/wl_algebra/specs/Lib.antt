@@ -6,6 +6,7 @@ pub mod Factorials
 pub mod Powers
 pub mod Joining
 pub mod Sums
+pub mod Products
 pub mod Questions
 pub mod Comparisons
 pub mod Table
@@ -16,3 +17,4 @@ pub mod Alike
 pub mod Standings
 pub mod Ranges
 pub mod SumsInside
+pub mod ProductsInside

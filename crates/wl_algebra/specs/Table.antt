@@ -9,6 +9,7 @@ use Rattle.wl_algebra.specs.Extremes.{max_row, min_row}
 use Rattle.wl_algebra.specs.Factorials.{factorial_row}
 use Rattle.wl_algebra.specs.Numbers.{of_number, absolute, sign, ceiling, numerator, denominator, of_pair, modulo, quotient, rational, gcd_row}
 use Rattle.wl_algebra.specs.Powers.{power_row}
+use Rattle.wl_algebra.specs.Products.{times_row}
 use Rattle.wl_algebra.specs.Questions.{question, is_even, is_odd, is_atom}
 use Rattle.wl_algebra.specs.Sums.{plus_row}
 
@@ -17,7 +18,7 @@ Row = List Tree → Applied
 
 abbrev pub rows : List (Name × Row)
 rows =
-    (codes "Plus", plus_row) ∷ (codes "Power", power_row)
+    (codes "Plus", plus_row) ∷ (codes "Times", times_row) ∷ (codes "Power", power_row)
     ∷ (codes "Abs", of_number absolute) ∷ (codes "Sign", of_number sign) ∷ (codes "Floor", of_number floor_of) ∷ (codes "Ceiling", of_number ceiling)
     ∷ (codes "Numerator", of_number numerator) ∷ (codes "Denominator", of_number denominator)
     ∷ (codes "Mod", of_pair modulo) ∷ (codes "Quotient", of_pair quotient) ∷ (codes "Rational", of_pair rational)

@@ -14,6 +14,7 @@ use crate::extremes::{Extreme, extreme_row};
 use crate::factorials::factorial_row;
 use crate::numbers::{Measure, gcd_row, modulo_row, number_row, quotient_row, rational_row};
 use crate::powers::power_row;
+use crate::products::times_row;
 use crate::questions::{Question, question_row};
 use crate::sums::plus_row;
 use std::alloc::Global;
@@ -23,6 +24,7 @@ use wl_expr::{Applied, Expr, ExprFault};
 #[derive(Clone, Copy)]
 pub enum Kind {
     Plus,
+    Times,
     Power,
     /// A function of one number.
     Measure(Measure),
@@ -51,6 +53,7 @@ impl Kind {
     {
         match name {
             "Plus" => Some(Kind::Plus),
+            "Times" => Some(Kind::Times),
             "Power" => Some(Kind::Power),
             "Abs" => Some(Kind::Measure(Measure::Absolute)),
             "Sign" => Some(Kind::Measure(Measure::Sign)),
@@ -105,6 +108,7 @@ fn row(kind: Kind, alloc: Global, args: &[Expr]) -> Result<Applied, ExprFault>
 {
     match kind {
         Kind::Plus => plus_row(alloc, args),
+        Kind::Times => times_row(alloc, args),
         Kind::Power => power_row(alloc, args),
         Kind::Measure(measure) => number_row(alloc, measure, args),
         Kind::Mod => modulo_row(alloc, args),

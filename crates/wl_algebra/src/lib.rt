@@ -10,6 +10,7 @@ mod joining;
 mod kind;
 mod numbers;
 mod powers;
+mod products;
 mod questions;
 mod sums;
 

@@ -34,7 +34,7 @@ fn is_one(e: &Expr) -> bool
     }
 }
 
-fn power(alloc: Global, base: &Expr, exponent: &Expr) -> Result<Expr, ExprFault>
+pub(crate) fn power(alloc: Global, base: &Expr, exponent: &Expr) -> Result<Expr, ExprFault>
     ensures made { IsMade (power (plain base.now) (plain exponent.now)) result }
     ensures passed { (ms : List Stamped) → IsFrom ms base.now → IsFrom ms exponent.now → IfOk result (IsFrom ms) }
 {

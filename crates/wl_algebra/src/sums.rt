@@ -242,7 +242,7 @@ fn give_sum(alloc: Global, sum: &Sum) -> Result<Applied, ExprFault>
 }
 
 /// Whether the symbol of this name is among the elements.
-fn has(args: &[Expr], name: &str) -> bool
+pub(crate) fn has(args: &[Expr], name: &str) -> bool
     ensures { result ≡ list_any (is_the name.now) (trees args.now) }
 {
     for arg in args {
@@ -272,7 +272,7 @@ fn is_number_or_infinity(e: &Expr) -> bool
     is_number(e) || is_symbol(e, "ComplexInfinity")
 }
 
-fn are_numbers_or_infinities(args: &[Expr]) -> bool
+pub(crate) fn are_numbers_or_infinities(args: &[Expr]) -> bool
     ensures { result ≡ list_all is_number_or_infinity (trees args.now) }
 {
     for arg in args {
