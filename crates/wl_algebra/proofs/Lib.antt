@@ -11,4 +11,3 @@ mod Ratios
 mod Splices
 mod Splits
 mod Terms
-mod WorkedRows

@@ -10,6 +10,7 @@ pub mod Products
 pub mod Questions
 pub mod Comparisons
 pub mod Table
+pub mod WorkedRows
 -- What contracts say of an answer, and the rows by their kinds.
 pub mod Answers
 pub mod Kinds

@@ -8,6 +8,7 @@ mod extremes;
 mod factorials;
 mod joining;
 mod kind;
+pub mod laws;
 mod numbers;
 mod powers;
 mod products;
