@@ -1,19 +1,18 @@
 -- What the tokens of a text cost, and that their atoms have the forms of their kinds.
-use Rattle.std.proofs.Common.{ℕ, zero, suc, ◌+◌, ◌-◌, ◌*◌, ◌<◌, ◌≤◌, ◌≡◌, Bool, true, false, ◌&&◌, leb, ◌==◌, nat_eq, List, [], ◌∷◌, ◌++◌, map, length, take, drop, get_or, min, refl, sym, ap, ◌∙◌, subst, arith}
+use Rattle.std.proofs.Common.{ℕ, zero, suc, ◌+◌, ◌-◌, ◌*◌, ◌<◌, ◌≤◌, ◌≡◌, Bool, true, false, ◌&&◌, leb, ◌==◌, nat_eq, List, [], ◌∷◌, ◌++◌, map, length, take, drop, get_or, refl, sym, ap, ◌∙◌, subst, arith}
 use Rattle.std.proofs.lemmas.List.{length-take, length-append}
 use Rattle.std.proofs.lemmas.List.Sums.{split_at_first}
 use Rattle.std.proofs.lemmas.Bool.{eqb-false, leb-true}
 use Rattle.std.proofs.lemmas.Slice.Eq.{bytes_eq-Decides}
 use Rattle.std.proofs.lemmas.Str.{length-encode, len_utf8_bounds}
 use Rattle.std.proofs.Math.ListN.{length-drop}
-use Rattle.std.specs.Prelude.{Option, Some, None, codes, if◌then◌else◌, encode_utf8, encode_utf8_all}
+use Rattle.std.specs.Prelude.{codes, if◌then◌else◌, encode_utf8, encode_utf8_all}
 use Rattle.std.specs.List.{before_first, after_first, starts_with, position_or_len}
 use Rattle.std.specs.Str.{IsUtf8, bytes_eq, chars, chars_after, continuation_len, lead_bits}
 use Rattle.wl_expr.specs.Tree as full
 use Rattle.wl_expr.specs.Tree.{weight}
-use Rattle.wl_scan.specs.Forms.{HasForm, IsNumber, IsWord, IsPattern, IsSlot, IsOut, is_mark}
-use Rattle.wl_scan.specs.TokenParts.{lexeme_of}
-use Rattle.wl_scan.specs.Tokens.{Lexeme, Scanned, scanned, scanned_from, coming, found}
+use Rattle.wl_scan.specs.Forms.{HasForm, IsPattern, is_mark}
+use Rattle.wl_scan.specs.Tokens.{Scanned, scanned_from, coming, found}
 use Rattle.wl_scan.specs.declared.found.Found.{Found}
 use Rattle.wl_scan.specs.declared.found.Found.TheVariants.{Gap, Lexed, Fault}
 use Rattle.wl_scan.specs.declared.token.Kind.{Kind}
@@ -23,10 +22,10 @@ use Rattle.wl_scan.proofs.Forms.{found_has}
 use Rattle.wl_scan.proofs.Steps.{Advances, found_advances}
 use Rattle.wl_syntax.specs.declared.operator.Sign.TheVariants as sign
 use Rattle.wl_syntax.specs.Parsed.{IsTreeOf}
-use Rattle.wl_syntax.specs.Atoms.{named, whole_number, index, slot_tree, output_tree, blank, blanks, bound, defaulted, pattern_tree, escaped, unquoted, string_of, atom_tree}
+use Rattle.wl_syntax.specs.Atoms.{named, index, slot_tree, output_tree, blank, blanks, bound, defaulted, pattern_tree, unquoted, string_of}
 use Rattle.wl_syntax.specs.Lexer.{signs, looked_up, token_of_kind, grammar_token, tokens}
 use Rattle.wl_syntax.specs.Polish.{Node, polish}
-use Rattle.wl_syntax.specs.Small.{sign_bytes, cost, costs, max_cost, TokensFit, AtomsFit, ElemsFit, IsSmall}
+use Rattle.wl_syntax.specs.Small.{sign_bytes, cost, costs, TokensFit, AtomsFit, ElemsFit, IsSmall}
 use Rattle.wl_syntax.specs.Table.{infix_sign}
 use Rattle.wl_syntax.specs.Token.{Atom, number, name, pattern, slot, output, text, Token}
 use Rattle.wl_syntax.specs.Token as token

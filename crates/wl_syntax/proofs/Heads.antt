@@ -1,8 +1,8 @@
 -- The heads of full forms are names.
-use Rattle.std.proofs.Common.{ℕ, ◌<◌, ◌≡◌, Bool, true, false, List, [], ◌∷◌, ◌&&◌, ◌||◌, ◌==◌, nat_lt, length, refl, ap, subst, sym, ◌∙◌, arith}
+use Rattle.std.proofs.Common.{ℕ, ◌<◌, ◌≡◌, Bool, true, false, List, [], ◌∷◌, ◌&&◌, ◌||◌, nat_lt, length, refl, arith}
 use Rattle.std.proofs.lemmas.Bool.Decides.{nat_tests}
 use Rattle.wl_ports.specs.Name.{IsName}
-use Rattle.wl_ports.proofs.AsciiNames.{begins_ascii_name, continues_ascii_name, all_continue_ascii_name, is_ascii_name, ascii_is_name}
+use Rattle.wl_ports.proofs.AsciiNames.{begins_ascii_name, continues_ascii_name, all_continue_ascii_name, ascii_is_name}
 use Rattle.wl_syntax.specs.declared.operator.Infix.{Infix}
 use Rattle.wl_syntax.specs.declared.operator.Infix.TheVariants.{Message, PatternTest, Of, Map, Apply, MapApply, StringJoin, Power, Divide, Times, Beside, Plus, Minus, Equal, Unequal, Less, LessEqual, Greater, GreaterEqual, SameQ, UnsameQ, And, Or, Alternatives, Colon, StringExpression, Condition, Rule, RuleDelayed, ReplaceAll, ReplaceRepeated, AddTo, SubtractFrom, TimesBy, DivideBy, Into, Set, SetDelayed, UpSet, UpSetDelayed, Tag, Semi}
 use Rattle.wl_syntax.specs.declared.operator.Prefix.{Prefix}

@@ -1,5 +1,5 @@
 -- What the signs that an atom begins with say of it.
-use Rattle.std.proofs.Common.{◌<◌, ◌==◌, Bool, drop, ℕ, suc, ◌≡◌, ◌≢◌, true, false, nat_eq, List, [], ◌∷◌, length, refl, sym, ap, ◌∙◌, subst, arith}
+use Rattle.std.proofs.Common.{◌==◌, Bool, drop, ℕ, suc, ◌≡◌, ◌≢◌, true, false, nat_eq, List, [], ◌∷◌, length, refl, sym, ap, ◌∙◌, subst, arith}
 use Rattle.std.specs.Prelude.{pos, neg_ℤ, codes, if◌then◌else◌}
 use Rattle.std.specs.List.{starts_with, before_first, after_first}
 use Rattle.std.specs.Str.{bytes_eq}
@@ -8,7 +8,7 @@ use Rattle.wl_syntax.specs.Atoms.{named, whole_number, index, slot_tree, output_
 use Rattle.wl_expr.specs.Tree as full
 use Rattle.wl_expr.specs.Tree.{IsWithinLimits}
 use Rattle.wl_syntax.proofs.Limits.{first_fits, second_fits}
-use Rattle.wl_scan.specs.Forms.{head_of, is_mark, IsSlot, IsOut, IsPattern}
+use Rattle.wl_scan.specs.Forms.{head_of, is_mark, IsSlot, IsOut}
 use Rattle.wl_scan.specs.Lengths.{slot_marks, percents_length}
 use Rattle.wl_scan.specs.Literals.{literal_value, HasValue}
 

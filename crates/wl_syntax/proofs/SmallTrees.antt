@@ -1,6 +1,6 @@
 -- The parts of small trees are small, and their expressions within the limits.
-use Rattle.std.proofs.Common.{Bool, true, false, ℕ, ◌+◌, ◌*◌, ◌<◌, ◌≤◌, ◌≡◌, List, [], ◌∷◌, ◌++◌, map, length, take, drop, get_or, max, min, refl, sym, ap, ap₂, ◌∙◌, subst, arith}
-use Rattle.std.proofs.lemmas.List.{take_more, take-append-drop, take-map, map_more}
+use Rattle.std.proofs.Common.{Bool, true, false, ℕ, ◌+◌, ◌<◌, ◌≤◌, ◌≡◌, List, [], ◌∷◌, ◌++◌, map, length, take, drop, get_or, refl, sym, ap, ◌∙◌, subst, arith}
+use Rattle.std.proofs.lemmas.List.{take-append-drop, take-map, map_more}
 use Rattle.std.specs.Prelude.{codes, if◌then◌else◌}
 use Rattle.wl_expr.specs.Stamped.{Stamped, unstamped}
 use Rattle.wl_expr.specs.Tree as full
@@ -16,23 +16,22 @@ use Rattle.wl_syntax.specs.declared.build.Item.{Item}
 use Rattle.wl_syntax.specs.declared.build.Item.TheVariants as code
 use Rattle.wl_syntax.specs.declared.chain.Link.{Link}
 use Rattle.wl_syntax.specs.Atoms.{named, atom_tree}
-use Rattle.wl_syntax.specs.Built.{Piece, tree, calling, listing, Pieces, pieces, lost, build, IsGroup, IsCall, Is, AreFrom, Are, unstamped_all}
+use Rattle.wl_syntax.specs.Built.{Piece, tree, calling, listing, Pieces, pieces, lost, build, IsGroup, Is, Are, unstamped_all}
 use Rattle.wl_syntax.specs.Chain.{form, link, continues}
-use Rattle.wl_syntax.specs.Depth.{depth, depths, pairs, joined_depth, last_depth, max_depth}
+use Rattle.wl_syntax.specs.Depth.{depth, last_depth, max_depth}
 use Rattle.wl_syntax.specs.Fits.{FitsOfAll, FitSides, FitJoined}
-use Rattle.wl_syntax.specs.Lower.{whole, items, elements, lower, prefixed, operand_of, reach, statements}
+use Rattle.wl_syntax.specs.Lower.{whole, items, elements, lower, prefixed, reach, statements}
 use Rattle.wl_syntax.specs.Lowered.{Takes, with_element, whole_call}
 use Rattle.wl_syntax.specs.declared.token.Node.{Node as CodeNode}
 use Rattle.wl_syntax.specs.Polish.{node_of, Node, leaf_node, list_node, paren_node, element_node, call_node, part_node, before_node, after_node, last_node, between_node, polish}
-use Rattle.wl_syntax.specs.Small.{cost, costs, max_cost, IsAtom, AtomsFit, ElemsFit, TokensFit, IsSmall, IsSmallPiece, AllSmall, AreSmall, FitsItem, FitItems}
+use Rattle.wl_syntax.specs.Small.{costs, IsAtom, AtomsFit, IsSmall, IsSmallPiece, AreSmall, FitsItem, FitItems}
 use Rattle.wl_syntax.specs.Table.{infix_sign, prefix_sign, postfix_sign, postfix_name}
 use Rattle.wl_syntax.specs.Token.{Atom, number, name, pattern, slot, output, text, Token}
 use Rattle.wl_syntax.specs.Token as token
-use Rattle.wl_syntax.specs.Tree.{Tree, leaf, paren, brace, call, part, before, after, last, between, Elems, none, more, sign_tokens, comma_after, reads, read_elems, Right, RightElems}
+use Rattle.wl_syntax.specs.Tree.{Tree, leaf, paren, brace, call, part, before, after, last, between, Elems, none, more, sign_tokens, comma_after, reads, read_elems, Right}
 use Rattle.wl_syntax.proofs.Building.{items_one}
-use Rattle.wl_syntax.proofs.Expressions.{group_expr}
 use Rattle.wl_syntax.proofs.Pieces.{built, built-append, built-polish}
-use Rattle.wl_syntax.proofs.TreeDepths.{lowered, lowered_elems, lower_height, operand_height}
+use Rattle.wl_syntax.proofs.TreeDepths.{lowered, lower_height, operand_height}
 use Rattle.wl_syntax.proofs.Weights.{costs-append, open_cost, brace_cost, call_cost, part_cost, sign_cost, behind_cost, last_cost, light, lower_weight, operand_light}
 
 -- parts

@@ -1,5 +1,5 @@
 -- The expression of a tree is at most twice as deep, and 2 more.
-use Rattle.std.proofs.Common.{nat_eq, ◌==◌, drop, ℕ, zero, suc, ◌+◌, ◌*◌, ◌≤◌, ◌≡◌, Bool, true, false, ◌&&◌, ◌||◌, List, [], ◌∷◌, ◌++◌, length, max, refl, sym, ap, ap₂, ◌∙◌, subst, arith}
+use Rattle.std.proofs.Common.{nat_eq, ◌==◌, drop, ℕ, ◌+◌, ◌*◌, ◌≤◌, ◌≡◌, Bool, true, false, ◌||◌, List, [], ◌∷◌, ◌++◌, length, max, refl, sym, ap, ◌∙◌, subst, arith}
 use Rattle.std.specs.Prelude.{Option, Some, None, codes, if◌then◌else◌}
 use Rattle.std.specs.List.{before_first, after_first, starts_with}
 use Rattle.std.specs.Str.{bytes_eq}
@@ -8,20 +8,19 @@ use Rattle.wl_expr.specs.Tree.{from_list, to_list}
 use Rattle.wl_syntax.specs.declared.operator.Infix.{Infix}
 use Rattle.wl_syntax.specs.declared.operator.Infix.TheVariants.{Message, PatternTest, Of, Map, Apply, MapApply, StringJoin, Power, Divide, Times, Beside, Plus, Minus, Equal, Unequal, Less, LessEqual, Greater, GreaterEqual, SameQ, UnsameQ, And, Or, Alternatives, Colon, StringExpression, Condition, Rule, RuleDelayed, ReplaceAll, ReplaceRepeated, AddTo, SubtractFrom, TimesBy, DivideBy, Into, Set, SetDelayed, UpSet, UpSetDelayed, Tag, Semi}
 use Rattle.wl_syntax.specs.declared.operator.Prefix.{Prefix}
-use Rattle.wl_syntax.specs.declared.operator.Prefix.TheVariants.{PreIncrement, PreDecrement, Negate, Not}
+use Rattle.wl_syntax.specs.declared.operator.Prefix.TheVariants.{Negate}
 use Rattle.wl_syntax.specs.declared.operator.Postfix.{Postfix}
 use Rattle.wl_syntax.specs.declared.operator.Postfix.TheVariants.{Increment, Decrement, Factorial, Repeated, RepeatedNull, Function, Unset}
 use Rattle.wl_syntax.specs.declared.chain.Form.{Form}
 use Rattle.wl_syntax.specs.declared.chain.Form.TheVariants.{Other, Name, Chain, Inequality, Nested, Defines}
-use Rattle.wl_syntax.specs.declared.chain.Tagged.{Tagged}
 use Rattle.wl_syntax.specs.declared.chain.Link.{Link}
 use Rattle.wl_syntax.specs.declared.chain.Link.TheVariants.{Alone, Starts, GoesOn, Mixes, MixesOn, Nests, NestsOn}
-use Rattle.wl_syntax.specs.Atoms.{named, atom_tree, index, slot_tree, output_tree, blank, blanks, bound, defaulted, pattern_tree, whole_number}
+use Rattle.wl_syntax.specs.Atoms.{named, atom_tree, index, slot_tree, output_tree, blank, blanks, bound, defaulted}
 use Rattle.wl_scan.specs.Forms.{is_mark}
 use Rattle.wl_syntax.specs.Chain.{is_sameness, form, link, linked, alone}
 use Rattle.wl_syntax.specs.Depth.{depth, depths, pairs, joined_depth, last_depth}
-use Rattle.wl_syntax.specs.Lower.{whole, items, elements, lower, reach, negative, negated_at, minus_one, is_product, prefixed, operand_of, as_text, args_of, tag_of, colon_of, pair_of, before_each, separated, nested_on, nested, chained, joined, statements}
-use Rattle.wl_syntax.specs.Table.{infix_level, infix_name, prefix_name, postfix_name}
+use Rattle.wl_syntax.specs.Lower.{whole, items, elements, lower, reach, negative, minus_one, is_product, prefixed, operand_of, as_text, args_of, colon_of, pair_of, before_each, separated, nested_on, nested, joined, statements}
+use Rattle.wl_syntax.specs.Table.{infix_level, infix_name, postfix_name}
 use Rattle.wl_syntax.specs.Token.{Atom, number, name, pattern, slot, output, text}
 use Rattle.wl_syntax.specs.Tree.{Tree, leaf, paren, brace, call, part, before, after, last, between, Elems, none, more}
 use Rattle.wl_syntax.proofs.Depths.{depth_pairs}

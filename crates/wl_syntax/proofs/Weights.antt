@@ -1,7 +1,6 @@
 -- The expression of a right tree weighs no more than its tokens cost.
-use Rattle.std.proofs.Common.{ℕ, zero, suc, ◌+◌, ◌*◌, ◌≤◌, ◌≡◌, Bool, true, false, ◌&&◌, List, [], ◌∷◌, ◌++◌, length, refl, sym, ap, ap₂, ◌∙◌, subst, arith}
+use Rattle.std.proofs.Common.{ℕ, ◌+◌, ◌≤◌, ◌≡◌, Bool, true, false, List, [], ◌∷◌, ◌++◌, length, refl, sym, ap, ◌∙◌, arith}
 use Rattle.std.specs.Prelude.{Option, Some, None, codes, if◌then◌else◌}
-use Rattle.std.specs.Str.{bytes_eq}
 use Rattle.wl_expr.specs.Tree as full
 use Rattle.wl_expr.specs.Tree.{weight, weights, from_list, to_list}
 use Rattle.wl_syntax.specs.declared.operator.Infix.{Infix}
@@ -17,11 +16,11 @@ use Rattle.wl_syntax.specs.declared.chain.Tagged.{Tagged}
 use Rattle.wl_syntax.specs.declared.chain.Tagged.TheVariants.{TagSet, TagSetDelayed, TagUnset}
 use Rattle.wl_syntax.specs.declared.chain.Link.{Link}
 use Rattle.wl_syntax.specs.declared.chain.Link.TheVariants.{Alone, Starts, GoesOn, Mixes, MixesOn, Nests, NestsOn}
-use Rattle.wl_syntax.specs.Atoms.{named, atom_tree}
-use Rattle.wl_syntax.specs.Chain.{is_comparison, is_sameness, is_chain, form, link, linked, alone}
-use Rattle.wl_syntax.specs.Lower.{whole, items, elements, lower, reach, negative, negated_at, minus_one, is_product, prefixed, operand_of, as_text, args_of, tagged_name, tag_of, colon_of, pair_of, before_each, separated, nested_on, nested, chained, joined, statements}
+use Rattle.wl_syntax.specs.Atoms.{named}
+use Rattle.wl_syntax.specs.Chain.{is_comparison, form, link, linked, alone}
+use Rattle.wl_syntax.specs.Lower.{whole, items, elements, lower, reach, negative, minus_one, is_product, prefixed, operand_of, as_text, args_of, tag_of, colon_of, pair_of, before_each, nested_on, joined, statements}
 use Rattle.wl_syntax.specs.Small.{sign_bytes, cost, costs}
-use Rattle.wl_syntax.specs.Table.{infix_level, infix_name, prefix_level, postfix_level, prefix_name, postfix_name, infix_sign, prefix_sign, postfix_sign, leaves, leans_right}
+use Rattle.wl_syntax.specs.Table.{infix_level, infix_name, prefix_level, postfix_level, postfix_name, infix_sign, prefix_sign, postfix_sign, leaves, leans_right}
 use Rattle.wl_syntax.specs.Token.{Atom, number, name, pattern, slot, output, text, Token}
 use Rattle.wl_syntax.specs.Token as token
 use Rattle.wl_syntax.specs.Tree.{Tree, leaf, paren, brace, call, part, before, after, last, between, Elems, none, more, sign_tokens, comma_after, reads, read_elems, left_edge, ends_last, TakesLeft, TakesRight, Right, RightElems}

@@ -1,5 +1,5 @@
 -- The laws of the grammar.
-use Rattle.std.specs.Prelude.{ℕ, ◌+◌, ◌*◌, ◌<◌, length, ℤ, pos, negsuc, true, ◌≡◌, ◌≤◌, ◌↔◌, List, [], ◌∷◌, Some, codes}
+use Rattle.std.specs.Prelude.{ℕ, ◌+◌, ◌*◌, ◌<◌, length, pos, negsuc, ◌≡◌, ◌≤◌, List, [], ◌∷◌, codes}
 use Rattle.wl_expr.specs.Tree as full
 use Rattle.wl_syntax.specs.declared.fault.SyntaxFault.{SyntaxFault}
 use Rattle.wl_syntax.specs.declared.fault.SyntaxFault.TheVariants.{Unclosed, Unexpected, Memory}
@@ -8,7 +8,6 @@ use Rattle.wl_syntax.specs.Atoms.{named, whole_number}
 use Rattle.wl_syntax.specs.Lower.{lower}
 use Rattle.wl_syntax.specs.Depth.{depth, max_depth}
 use Rattle.wl_syntax.specs.Reads.{HasTree, IsReadAs, Refused}
-use Rattle.wl_syntax.specs.Token.{Token}
 use Rattle.wl_syntax.specs.Tree.{Tree, Right, reads}
 
 -- Two right trees that read as the same tokens are the same tree.

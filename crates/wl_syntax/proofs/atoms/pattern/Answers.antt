@@ -1,4 +1,4 @@
-use Rattle.std.proofs.Common.{Some, [], ◌∷◌, sym, ap, ◌∙◌, arith, subst, ◌<◌, length, refl, None}
+use Rattle.std.proofs.Common.{Some, [], ◌∷◌, sym, ap, ◌∙◌, arith, subst, ◌<◌, length, None}
 use Rattle.std.proofs.lemmas.Str.Pattern.{split_once_first}
 use Rattle.wl_expr.specs.Stamped.{unstamped}
 use Rattle.wl_syntax.specs.Atoms.{bound, blanks}

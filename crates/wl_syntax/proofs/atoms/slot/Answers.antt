@@ -3,7 +3,7 @@ use Rattle.std.proofs.lemmas.Str.Pattern.{strip_prefix_char}
 use Rattle.wl_expr.specs.Stamped.{unstamped}
 use Rattle.wl_syntax.specs.Atoms.{index}
 use Rattle.wl_syntax.proofs.Building.{items_one}
-use Rattle.wl_syntax.proofs.Marks.{slot_one, slot_two, slot_begins, slot_digits, slots_digits}
+use Rattle.wl_syntax.proofs.Marks.{slot_one, slot_two, slot_begins, slot_digits}
 use Rattle.wl_expr.specs.Tree.{IsWithinLimits}
 use Rattle.wl_syntax.proofs.atoms.slot.Goals as goal
 

@@ -1,4 +1,4 @@
-use Rattle.std.proofs.Common.{◌≤◌, length, sym, subst, arith}
+use Rattle.std.proofs.Common.{length, sym, subst, arith}
 use Rattle.wl_syntax.specs.Tree.{reads}
 use Rattle.wl_syntax.proofs.Costs.{AllFit, tokens_fit}
 use Rattle.wl_syntax.proofs.TreeDepths.{lower_height}
