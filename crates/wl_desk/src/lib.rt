@@ -1,0 +1,14 @@
+//! Messages and shown items.
+#![tactic(auto)]
+
+mod desk;
+mod item;
+pub mod laws;
+mod message;
+mod tally;
+#[cfg(test)]
+mod tests;
+mod text;
+
+pub use desk::Desk;
+pub use item::Item;
