@@ -1,0 +1,7 @@
+-- For this crate's own proofs.
+pub mod Faults
+mod FirstTimes
+mod Heavy
+mod Makings
+pub mod Rows
+mod Splits

@@ -1,0 +1,15 @@
+-- The definition: the rows, and which name has which.
+pub mod Nodes
+pub mod Elements
+pub mod Places
+pub mod Segments
+pub mod Tabulated
+pub mod Arrays
+pub mod Joining
+pub mod Functions
+pub mod Strings
+pub mod Table
+-- What contracts say of an answer, and the rows by their kinds.
+pub mod Answers
+pub mod Kinds
+pub mod Alike

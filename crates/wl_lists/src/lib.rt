@@ -1,0 +1,18 @@
+//! The built-in functions on expressions, lists and strings, as rows that look at their elements alone.
+#![tactic(auto)]
+
+mod answer;
+mod applying;
+mod arrays;
+mod element;
+mod elements;
+mod functions;
+mod joining;
+mod kind;
+mod segments;
+mod strings;
+
+pub use kind::{Kind, apply};
+
+#[cfg(test)]
+mod tests;
