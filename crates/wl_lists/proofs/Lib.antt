@@ -1,5 +1,6 @@
 -- For this crate's own proofs.
 pub mod Faults
+mod Chunks
 mod FirstTimes
 mod Heavy
 mod Makings

@@ -54,3 +54,18 @@ place_made g all before after first i n e v l a m =
 pub place_large : (g : ℕ → Tree) (all : List Tree) (before : List Stamped) (first i n : ℕ) → all ≡ trees before ++ tabulated g (first + i) (n - i) → i < n → ¬ IsWithinLimits (g (first + i)) → ¬ AreSmall (from_list all)
 place_large g all before first i n v l w =
     large_among all (trees before) (g (first + i)) (tabulated g (first + i + 1) (n - i - 1)) (v ∙ ap (λ (us : List Tree). trees before ++ us) (next_tabulated g (first + i) (n - i) (omega arith))) w
+
+-- ---- of other values, as characters
+
+mapped_next : {X : Type 0} (g : X → Tree) (xs : List X) (i : ℕ) (x : X) → i < length xs → x ≡ get_or xs i x → map g (drop i xs) ≡ g x ∷ map g (drop (i + 1) xs)
+mapped_next g xs i x l p = ap (map g) (next_of xs i x l p)
+
+pub value_made : {X : Type 0} (g : X → Tree) (xs : List X) (before after : List Stamped) (i : ℕ) (x : X) (e : Stamped) → map g xs ≡ trees before ++ map g (drop i xs) → i < length xs → x ≡ get_or xs i x
+    → after ≡ before ++ e ∷ [] → plain e ≡ g x → map g xs ≡ trees after ++ map g (drop (i + 1) xs)
+value_made g xs before after i x e v l p a m =
+    v ∙ ap (λ (us : List Tree). trees before ++ us) (mapped_next g xs i x l p) ∙ one_more before after e (g x) (map g (drop (i + 1) xs)) a m
+
+pub value_large : {X : Type 0} (g : X → Tree) (xs : List X) (before : List Stamped) (i : ℕ) (x : X) → map g xs ≡ trees before ++ map g (drop i xs) → i < length xs → x ≡ get_or xs i x
+    → ¬ IsWithinLimits (g x) → ¬ AreSmall (from_list (map g xs))
+value_large g xs before i x v l p n =
+    large_among (map g xs) (trees before) (g x) (map g (drop (i + 1) xs)) (v ∙ ap (λ (us : List Tree). trees before ++ us) (mapped_next g xs i x l p)) n

@@ -5,6 +5,8 @@ pub mod Places
 pub mod Segments
 pub mod Tabulated
 pub mod Arrays
+pub mod Flattening
+pub mod Partitions
 pub mod Joining
 pub mod Functions
 pub mod Strings

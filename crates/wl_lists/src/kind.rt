@@ -13,10 +13,14 @@ use crate::elements::{
     append_row, depth_row, first_row, head_row, last_row, length_row, most_row, order_row,
     ordered_row, prepend_row, rest_row, reverse_row,
 };
+use crate::flattening::flatten_row;
 use crate::functions::{evaluate_row, identity_row, release_hold_row, total_row};
 use crate::joining::{delete_duplicates_row, join_row, sort_row, union_row};
+use crate::partitions::partition_row;
 use crate::segments::{drop_row, take_row};
-use crate::strings::{make_boxes_row, string_join_row, string_length_row, to_string_row};
+use crate::strings::{
+    characters_row, make_boxes_row, string_join_row, string_length_row, to_string_row,
+};
 use std::alloc::Global;
 use wl_expr::{Applied, Expr, ExprFault};
 
@@ -41,13 +45,16 @@ pub enum Kind {
     DeleteDuplicates,
     Take,
     Drop,
+    Flatten,
     Total,
+    Partition,
     Apply,
     MapApply,
     Map,
     Array,
     StringJoin,
     StringLength,
+    Characters,
     ToString,
     MakeBoxes,
     Evaluate,
@@ -79,13 +86,16 @@ impl Kind {
             "DeleteDuplicates" => Some(Kind::DeleteDuplicates),
             "Take" => Some(Kind::Take),
             "Drop" => Some(Kind::Drop),
+            "Flatten" => Some(Kind::Flatten),
             "Total" => Some(Kind::Total),
+            "Partition" => Some(Kind::Partition),
             "Apply" => Some(Kind::Apply),
             "MapApply" => Some(Kind::MapApply),
             "Map" => Some(Kind::Map),
             "Array" => Some(Kind::Array),
             "StringJoin" => Some(Kind::StringJoin),
             "StringLength" => Some(Kind::StringLength),
+            "Characters" => Some(Kind::Characters),
             "ToString" => Some(Kind::ToString),
             "MakeBoxes" => Some(Kind::MakeBoxes),
             "Evaluate" => Some(Kind::Evaluate),
@@ -130,13 +140,16 @@ fn row(kind: Kind, alloc: Global, args: &[Expr]) -> Result<Applied, ExprFault>
         Kind::DeleteDuplicates => delete_duplicates_row(alloc, args),
         Kind::Take => take_row(alloc, args),
         Kind::Drop => drop_row(alloc, args),
+        Kind::Flatten => flatten_row(alloc, args),
         Kind::Total => total_row(alloc, args),
+        Kind::Partition => partition_row(alloc, args),
         Kind::Apply => apply_row(alloc, args),
         Kind::MapApply => map_apply_row(alloc, args),
         Kind::Map => map_row(alloc, args),
         Kind::Array => array_row(alloc, args),
         Kind::StringJoin => string_join_row(alloc, args),
         Kind::StringLength => string_length_row(alloc, args),
+        Kind::Characters => characters_row(alloc, args),
         Kind::ToString => to_string_row(alloc, args),
         Kind::MakeBoxes => make_boxes_row(alloc, args),
         Kind::Evaluate => evaluate_row(alloc, args),

@@ -6,9 +6,11 @@ mod applying;
 mod arrays;
 mod element;
 mod elements;
+mod flattening;
 mod functions;
 mod joining;
 mod kind;
+mod partitions;
 mod segments;
 mod strings;
 

@@ -16,8 +16,8 @@ use wl_ports::Memory;
 /// Where a run of elements begins, from 0, and how many it has.
 #[derive(Clone, Copy)]
 pub(crate) struct Segment {
-    from: usize,
-    count: usize,
+    pub(crate) from: usize,
+    pub(crate) count: usize,
 }
 
 /// The place, from 0, of an index from 1, or from -1 backwards.
@@ -88,7 +88,7 @@ fn segment_of(size: usize, e: &Expr) -> Option<Segment>
 }
 
 /// These elements.
-fn taken(elements: &[Expr], s: Segment) -> &[Expr]
+pub(crate) fn taken(elements: &[Expr], s: Segment) -> &[Expr]
     requires { s.from + s.count ≤ length elements.now }
     ensures value { trees result.now ≡ take s.count (drop s.from (trees elements.now)) }
     ensures passed { (ms : List Stamped) → AllFrom ms elements.now → AllFrom ms result.now }

@@ -1,5 +1,5 @@
 //! Strings, and the text and the boxes of expressions.
-ghost use Rattle.std.specs.Prelude.{◌≡◌, Err, IfOk, List, chars, length, string_bytes};
+ghost use Rattle.std.specs.Prelude.{◌≡◌, Err, IfOk, List, chars, encode_utf8, length, string_bytes};
 ghost use Rattle.std.specs.List.{flat_map, list_all};
 ghost use Rattle.wl_expr.specs.Applied.{gives};
 ghost use Rattle.wl_expr.specs.Passed.{IsFrom};
@@ -10,7 +10,7 @@ ghost use Rattle.wl_form.specs.Boxes.{boxes};
 ghost use Rattle.wl_lists.specs.Answers.{AllFrom, IsAnswer, IsMade, IsPassed, trees};
 ghost use Rattle.wl_lists.specs.Strings.{bytes_of, character_texts, characters_row, make_boxes_row, string_join_row, string_length_row, to_string_row};
 
-use crate::answer::{give, give_copy, give_form, give_made, give_whole, stay};
+use crate::answer::{give, give_copy, give_form, give_list, give_made, give_whole, stay};
 use std::alloc::Global;
 use wl_expr::{Applied, Expr, ExprFault, Look};
 use wl_form::{boxes, input_form};
@@ -128,6 +128,50 @@ pub(crate) fn string_length_row(alloc: Global, args: &[Expr]) -> Result<Applied,
     };
     match e.view() {
         Look::Text(s) => give_whole(alloc, count_of_characters(s) as i128),
+        _ => stay(),
+    }
+}
+
+/// The character as a string.
+#[tactic(auto, using(crate::proofs::Faults::memory_makes))]
+fn character_text(alloc: Global, c: char) -> Result<Expr, ExprFault>
+    ensures made { IsMade (tree_text (encode_utf8 c)) result }
+    ensures passed { (ms : List Stamped) → IfOk result (IsFrom ms) }
+{
+    let mut one = String::new(alloc);
+    one.push(c)?;
+    text(alloc, one.as_str())
+}
+
+fn characters(alloc: Global, s: &str) -> Result<Vec<char>, Memory>
+    ensures { IfOk result (λ v. v.items ≡ chars s.now) }
+{
+    Ok(s.chars().collect(alloc)?)
+}
+
+fn texts_of(alloc: Global, cs: &[char]) -> Result<Vec<Expr>, ExprFault>
+    ensures value { IfOk result (λ v. trees v.items ≡ character_texts cs.now) }
+    ensures large { result ≡ Err ExprFault.Large → ¬ AreSmall (from_list (character_texts cs.now)) }
+    ensures passed { (ms : List Stamped) → IfOk result (λ v. AllFrom ms v.items) }
+{
+    let mut all = Vec::with_capacity(alloc, cs.len())?;
+    for c in cs {
+        let one = character_text(alloc, *c)?;
+        all.push(one)?;
+    }
+    Ok(all)
+}
+
+#[tactic(auto, using(crate::proofs::Faults::memory_answers))]
+pub(crate) fn characters_row(alloc: Global, args: &[Expr]) -> Result<Applied, ExprFault>
+    ensures answer { IsAnswer (characters_row (trees args.now)) result }
+    ensures passed { (ms : List Stamped) → AllFrom ms args.now → IsPassed ms result }
+{
+    let [e] = args else {
+        return stay();
+    };
+    match e.view() {
+        Look::Text(s) => give_list(alloc, texts_of(alloc, characters(alloc, s)?.as_slice())),
         _ => stay(),
     }
 }

@@ -307,3 +307,50 @@ fn writes_strings(rt: HostRuntime) -> Result<(), Fail> {
     assert!(&rt; Kind::named("Nothing").is_none());
     Ok(())
 }
+
+#[test]
+fn cuts_and_flattens(rt: HostRuntime) -> Result<(), Fail> {
+    let alloc = rt.alloc();
+    let f = numbers(&rt, alloc)?;
+    let inner = node(&rt, alloc, "f", &[f.copy()?])?;
+    let nested = node(&rt, alloc, "f", &[inner, letters(&rt, alloc)?])?;
+    let one = whole(alloc, 1)?;
+    let two = whole(alloc, 2)?;
+    let none = whole(alloc, 0)?;
+    gives(
+        &rt,
+        alloc,
+        "Flatten",
+        &[nested.copy()?],
+        "f[1, 2, 3, List[c, a, b, a]]",
+    )?;
+    gives(
+        &rt,
+        alloc,
+        "Flatten",
+        &[nested.copy()?, one.copy()?],
+        "f[f[1, 2, 3], List[c, a, b, a]]",
+    )?;
+    gives(&rt, alloc, "Flatten", &[one.copy()?], "-")?;
+    gives(&rt, alloc, "Partition", &[f.copy()?, two], "f[f[1, 2]]")?;
+    gives(
+        &rt,
+        alloc,
+        "Partition",
+        &[f.copy()?, one],
+        "f[f[1], f[2], f[3]]",
+    )?;
+    gives(&rt, alloc, "Partition", &[f, none], "-")?;
+    Ok(())
+}
+
+#[test]
+fn lists_characters(rt: HostRuntime) -> Result<(), Fail> {
+    let alloc = rt.alloc();
+    let long = Expr::text(alloc, "a\u{e4}")?;
+    let empty = Expr::text(alloc, "")?;
+    gives(&rt, alloc, "Characters", &[long], "List[\"a\", \"\u{e4}\"]")?;
+    gives(&rt, alloc, "Characters", &[empty], "List[]")?;
+    gives(&rt, alloc, "Characters", &[whole(alloc, 12)?], "-")?;
+    Ok(())
+}
