@@ -11,6 +11,7 @@ pub mod Joining
 pub mod Functions
 pub mod Strings
 pub mod Table
+pub mod Laws
 -- What contracts say of an answer, and the rows by their kinds.
 pub mod Answers
 pub mod Kinds

@@ -10,6 +10,7 @@ mod flattening;
 mod functions;
 mod joining;
 mod kind;
+pub mod laws;
 mod partitions;
 mod segments;
 mod strings;
