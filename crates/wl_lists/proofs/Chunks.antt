@@ -1,5 +1,5 @@
 -- Whole parts of a list.
-use Rattle.std.proofs.Common.{◌≡◌, ◌≤◌, ◌<◌, ◌+◌, ◌*◌, ◌/◌, ℕ, zero, suc, List, length, Some, refl, ap, ◌∙◌, arith}
+use Rattle.std.proofs.Common.{◌≡◌, ◌≤◌, ◌<◌, ◌+◌, ◌*◌, ◌/◌, ℕ, zero, suc, List, length, Some, refl, ap, arith}
 use Rattle.std.proofs.Math.Nat.{div-mul-le_self, div-eq_of_lt, mul-le-mul_right}
 use Rattle.wl_expr.specs.Applied.{gives}
 use Rattle.wl_expr.specs.Tree.{Tree}

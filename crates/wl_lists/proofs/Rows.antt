@@ -1,5 +1,5 @@
 -- Rows of a node, with what was seen of it.
-use Rattle.std.proofs.Common.{◌≡◌, ◌≤◌, ◌-◌, List, [], ◌∷◌, length, reverse, take, map, Option, Some, sym, ap, ◌∙◌, arith}
+use Rattle.std.proofs.Common.{◌≡◌, ◌≤◌, ◌-◌, List, [], ◌∷◌, length, reverse, take, Some, sym, ap, ◌∙◌, arith}
 use Rattle.indexmap.proofs.ReorderLemmas.{map-reverse}
 use Rattle.std.proofs.lemmas.List.{length-map, take-map}
 use Rattle.wl_expr.specs.Applied.{Applied, gives}

@@ -1,5 +1,5 @@
 -- Rows on an expression and on the elements of a node. Reference pages of these.
-use Rattle.std.specs.Prelude.{negsuc, true, false, List, [], ◌∷◌, ◌++◌, ◌-◌, length, reverse, take, slice_get, Option, Some, None}
+use Rattle.std.specs.Prelude.{negsuc, List, [], ◌∷◌, ◌++◌, ◌-◌, length, reverse, take, slice_get}
 use Rattle.std.specs.declared.cmp.Ordering.{Ordering}
 use Rattle.std.specs.declared.cmp.Ordering.TheVariants.{Less, Equal, Greater}
 use Rattle.wl_expr.specs.Applied.{Applied, unchanged, gives}

@@ -1,5 +1,5 @@
 -- Sort, Join, Union, DeleteDuplicates. Reference pages of these.
-use Rattle.std.specs.Prelude.{Bool, true, false, List, [], ◌∷◌, Option, Some, None}
+use Rattle.std.specs.Prelude.{Bool, true, false, List, [], ◌∷◌}
 use Rattle.std.specs.List.{flat_map, list_all}
 use Rattle.wl_expr.specs.Applied.{Applied, unchanged, gives}
 use Rattle.wl_expr.specs.Same.{same, first_of_each}

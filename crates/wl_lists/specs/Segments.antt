@@ -1,5 +1,5 @@
 -- `Take[e, n]`, `Take[e, -n]`, `Take[e, {m, n}]`, and Drop likewise, where the elements exist. Reference pages of these.
-use Rattle.std.specs.Prelude.{ℕ, ℤ, ◌+◌, ◌-◌, Bool, true, false, nat_le, List, [], ◌∷◌, ◌++◌, length, take, drop, Option, Some, None, if◌then◌else◌, unsigned_abs}
+use Rattle.std.specs.Prelude.{ℕ, ℤ, ◌+◌, ◌-◌, nat_le, List, [], ◌∷◌, ◌++◌, length, take, drop, Option, Some, None, if◌then◌else◌, unsigned_abs}
 use Rattle.std.specs.Int.{is_negative}
 use Rattle.wl_expr.specs.Applied.{Applied, unchanged, gives}
 use Rattle.wl_expr.specs.Tree.{Tree}

@@ -1,4 +1,4 @@
-use Rattle.std.proofs.Common.{rules, ◌≡◌, ◌∷◌, [], ◌-◌, length, take, Some, sym, ◌∙◌, subst}
+use Rattle.std.proofs.Common.{rules, ◌≡◌, ◌∷◌, [], Some, sym, ◌∙◌, subst}
 use Rattle.wl_expr.proofs.Items.{one_item}
 use Rattle.wl_expr.specs.Stamped.{plain}
 use Rattle.wl_lists.specs.Answers.{IsAnswer, trees}

@@ -2,7 +2,6 @@ use Rattle.std.proofs.Common.{◌≡◌, ◌+◌, ◌-◌, take, drop, sym, ap, 
 use Rattle.std.proofs.lemmas.List.{take-map}
 use Rattle.std.specs.List.{drop-map}
 use Rattle.wl_expr.specs.Stamped.{plain}
-use Rattle.wl_expr.specs.Tree.{Tree}
 use Rattle.wl_lists.specs.Answers.{trees}
 use Rattle.wl_lists.proofs.segments.taken.Goals as goal
 

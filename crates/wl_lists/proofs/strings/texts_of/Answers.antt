@@ -1,6 +1,6 @@
 use Rattle.std.proofs.Common.{rules, ◌≡◌, ◌++◌, ◌∷◌, []}
 use Rattle.std.specs.Prelude.{ℕ, encode_utf8}
-use Rattle.wl_expr.specs.Tree.{Tree, text}
+use Rattle.wl_expr.specs.Tree.{text}
 use Rattle.wl_lists.proofs.Faults.{fault_passed_on}
 use Rattle.wl_lists.proofs.Makings.{next_from, value_made, value_large}
 use Rattle.wl_lists.proofs.strings.texts_of.Goals as goal
