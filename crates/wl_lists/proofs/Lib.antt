@@ -1,0 +1,8 @@
+-- For this crate's own proofs.
+pub mod Faults
+mod Chunks
+mod FirstTimes
+mod Heavy
+mod Makings
+pub mod Rows
+mod Splits

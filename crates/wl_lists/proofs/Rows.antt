@@ -1,0 +1,26 @@
+-- Rows of a node, with what was seen of it.
+use Rattle.std.proofs.Common.{◌≡◌, ◌≤◌, ◌-◌, List, [], ◌∷◌, length, reverse, take, Some, sym, ap, ◌∙◌, arith}
+use Rattle.indexmap.proofs.ReorderLemmas.{map-reverse}
+use Rattle.std.proofs.lemmas.List.{length-map, take-map}
+use Rattle.wl_expr.specs.Applied.{Applied, gives}
+use Rattle.wl_expr.specs.Stamped.{Stamped, plain}
+use Rattle.wl_expr.specs.Tree.{Tree}
+use Rattle.wl_expr.specs.Words.{applied}
+use Rattle.wl_lists.specs.Answers.{trees}
+use Rattle.wl_lists.specs.Elements.{most_of}
+use Rattle.wl_lists.specs.Nodes.{node_of, by_node, of_node, of_node_and}
+
+pub node_row : (f : Tree → List Tree → Applied) (xs : List Stamped) (e : Stamped) (h : Tree) (ts : List Tree) → xs ≡ e ∷ [] → Some (h, ts) ≡ node_of (plain e) → of_node f (trees xs) ≡ f h ts
+node_row f xs e h ts x q = ap (λ ys. of_node f (trees ys)) x ∙ ap (by_node f) (sym q)
+
+pub node_and_row : (f : Tree → List Tree → Tree → Applied) (xs : List Stamped) (e y : Stamped) (h : Tree) (ts : List Tree) → xs ≡ e ∷ y ∷ [] → Some (h, ts) ≡ node_of (plain e) → of_node_and f (trees xs) ≡ f h ts (plain y)
+node_and_row f xs e y h ts x q = ap (λ ys. of_node_and f (trees ys)) x ∙ ap (by_node (λ g us. f g us (plain y))) (sym q)
+
+pub most_given : (h : Tree) (xs : List Stamped) → 1 ≤ length xs → most_of h (trees xs) ≡ gives (applied h (trees (take (length xs - 1) xs)))
+most_given h [] l = absurd (omega arith)
+most_given h (x ∷ xs) l =
+    let n : length xs ≡ length (x ∷ xs) - 1 = omega arith in
+    ap (λ n. gives (applied h (take n (trees (x ∷ xs))))) (length-map xs plain ∙ n) ∙ ap (λ ts. gives (applied h ts)) (take-map plain (length (x ∷ xs) - 1) (x ∷ xs))
+
+pub reversed_trees : (xs : List Stamped) → trees (reverse xs) ≡ reverse (trees xs)
+reversed_trees xs = map-reverse plain xs
