@@ -1,7 +1,9 @@
 pub mod Choices
 pub mod Keys
 pub mod RuleOrder
+pub mod Arrival
 pub mod Places
 pub mod Plain
 pub mod Rows
 pub mod Texts
+pub mod Started

@@ -15,6 +15,7 @@ use Rattle.wl_rules.specs.Entries.{Entry, PlainRule, value_at, map_entry, empty_
 use Rattle.wl_rules.specs.StampedRules.{plain_rule}
 use Rattle.wl_rules.specs.Stored.{Slot, Stored, new_slot, row_at, name_at, version_at, entry_at, plain_entry, definitions, next_version, with_slot, changed}
 use Rattle.wl_rules.specs.Changes.{AreDistinct, Defines, Draws}
+use Rattle.wl_rules.specs.Starting.{with_row}
 use Rattle.wl_rules.specs.declared.rule.Rule.{Rule}
 use Rattle.wl_rules.proofs.Choices.{pick_true, pick_false, pick_again, none_picked}
 
@@ -148,6 +149,14 @@ rows-insert_new {Y} (e ∷ es) k v h =
       | false ↦ λ p. ap (λ xs. row e ∷ xs) (rows-insert_new es k v passed.1)
     ] in
     cases (string_eq k e.0) passed.0
+
+pub rows-insert : {Y : Type 0} (es : List (String Y × Slot)) (k : String Y) (v : Slot) → map (λ p. (string_bytes p.0, p.1)) (insert_entry string_eq es k v) ≡ with_row (string_bytes k) v (map (λ p. (string_bytes p.0, p.1)) es)
+rows-insert [] k v = refl
+rows-insert {Y} (e ∷ es) k v =
+    elim (string_eq k e.0) as (λ b. map row (cond b ((e.0, v) ∷ es) (e ∷ insert_entry string_eq es k v)) ≡ cond b ((string_bytes e.0, v) ∷ map row es) (row e ∷ with_row (string_bytes k) v (map row es))) [
+      | true ↦ refl
+      | false ↦ ap (λ xs. row e ∷ xs) (rows-insert es k v)
+    ]
 
 -- a change keeps the versions up to the number drawn last
 pub versions_changed : (rows : List (Name × Slot)) (i : ℕ) (w : Slot) (n : ℕ) → ((j : ℕ) → (row_at j rows).1.version ≤ n) → w.version ≡ next_version n → n < 2 ^ 64 → (j : ℕ) → (row_at j (with_slot i w rows)).1.version ≤ next_version n

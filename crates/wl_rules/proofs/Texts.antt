@@ -1,9 +1,11 @@
 -- Maps with texts as keys, by the texts' bytes.
-use Rattle.std.proofs.Common.{◌≡◌, ℕ, true, false, cond, List, [], ◌∷◌, map, Some, option_map, bytes_eq, refl, ap}
+use Rattle.std.proofs.Common.{◌≡◌, ℕ, true, false, cond, List, [], ◌∷◌, map, Some, option_map, bytes_eq, slice_get, zero, suc, refl, ap}
 use Rattle.std.proofs.lemmas.Map.Text.{is_eq-slice_cmp}
 use Rattle.std.specs.BTreeMap.{insert_entry, is_at}
 use Rattle.std.specs.Cmp.Lexicographic.{slice_cmp}
 use Rattle.std.specs.Map.{lookup, remove_entry}
+use Rattle.std.specs.List.{AllByRecursion}
+use Rattle.std.specs.List.Sorted.{IsStrictlySortedBy}
 use Rattle.std.specs.Ordering.{nat_cmp, match_ordering}
 use Rattle.std.specs.declared.cmp.Ordering.TheVariants.{Less, Equal, Greater}
 use Rattle.std.specs.declared.string.String.{String}
@@ -38,3 +40,26 @@ module _ {Y X Z : Type 0} (g : X → Z) where
         | Equal ↦ refl
         | Greater ↦ ap (λ xs. by_bytes e ∷ xs) (insert-texts es k v)
       ]
+
+  -- ---- by place
+
+  pub texts_at : (es : List (String Y × X)) (k : ℕ) → slice_get {X = List ℕ × Z} (map by_bytes es) k ≡ option_map by_bytes (slice_get es k)
+  texts_at [] k = refl
+  texts_at (e ∷ es) zero = refl
+  texts_at (e ∷ es) (suc k) = texts_at es k
+
+  pub tag_at : (es : List (String Y × X)) (k : ℕ) → option_map (λ (p : List ℕ × Z). p.0) (slice_get (map by_bytes es) k) ≡ option_map (λ (p : String Y × X). string_bytes p.0) (slice_get es k)
+  tag_at [] k = refl
+  tag_at (e ∷ es) zero = refl
+  tag_at (e ∷ es) (suc k) = tag_at es k
+
+  -- ---- the order of tags
+
+  tags_above : (t : String Y) (es : List (String Y × X)) → AllByRecursion (λ y. string_cmp t y ≡ Less) (map (λ p. p.0) es) → AllByRecursion (λ y. slice_cmp nat_cmp (string_bytes t) y ≡ Less) (map (λ p. p.0) (map by_bytes es))
+  tags_above t [] h = tt
+  tags_above t (e ∷ es) h = (h.0, tags_above t es h.1)
+
+  pub tags_ascend : (es : List (String Y × X)) → IsStrictlySortedBy string_cmp (map (λ p. p.0) es) → IsStrictlySortedBy (slice_cmp nat_cmp) (map (λ p. p.0) (map by_bytes es))
+  unfolding IsStrictlySortedBy
+  tags_ascend [] h = tt
+  tags_ascend (e ∷ es) h = (tags_above e.0 es h.0, tags_ascend es h.1)

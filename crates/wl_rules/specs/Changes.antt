@@ -19,9 +19,6 @@ pub record Draws (index : ℕ) (old new : Stored) : Type 0 where
 abbrev pub IsProtected : ℕ → Stored → Type 0
 IsProtected i s = (entry_at i s).attributes.protected ≡ true
 
-abbrev pub empty_store : Stored
-empty_store = record { rows = []; drawn = 0 }
-
 -- one more name behind the others, with the empty entry
 abbrev pub with_name : Name → Stored → Stored
 with_name x s = record s { rows = s.rows ++ (x, new_slot) ∷ [] }

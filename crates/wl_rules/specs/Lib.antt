@@ -6,6 +6,8 @@ pub mod Entries
 pub mod StampedRules
 pub mod Stored
 pub mod Changes
+pub mod Start
+pub mod Tags
 -- What serves the proofs.
 pub mod AttributesView
 pub mod Forms
@@ -16,3 +18,4 @@ pub mod RuleListView
 pub mod EntryInside
 pub mod TableInside
 pub mod Lending
+pub mod Starting

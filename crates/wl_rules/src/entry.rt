@@ -1,5 +1,5 @@
 //! The entry of a name.
-ghost use Rattle.std.specs.Prelude.{◌≡◌, ◌↔◌, true, false, IfOk, IfSome, OnOk, OnErr, option_copied, option_map};
+ghost use Rattle.std.specs.Prelude.{◌≡◌, ◌↔◌, true, false, IfOk, IfSome, OnOk, OnErr, option_copied, option_map, slice_get};
 ghost use Rattle.std.specs.Bool.{OnTrue, OnFalse};
 ghost use Rattle.wl_expr.specs.Stamped.{plain};
 ghost use Rattle.wl_rules.specs.Attributes.{AttributeSet};
@@ -7,6 +7,7 @@ ghost use Rattle.wl_rules.specs.Entries.{of_kind, put_rule, remove_rule, cleared
 ghost use Rattle.wl_rules.specs.RuleLists.{has_left};
 ghost use Rattle.wl_rules.specs.StampedRules.{left_of};
 ghost use Rattle.wl_rules.specs.Stored.{new_slot};
+ghost use Rattle.wl_rules.specs.Tags.{AreByTag};
 
 use crate::attribute::{Attribute, Attributes};
 use crate::rule::{Rule, RuleKind};
@@ -207,5 +208,27 @@ impl Entry {
         ensures { result ≡ is_off self.now.entry tag.now }
     {
         self.off.contains_key(tag)
+    }
+
+    /// The tag and the text of the k-th message.
+    pub(crate) fn message_at(&self, k: usize) -> Option<(&str, &str)>
+        ensures value { option_map (λ p. (p.0.now, p.1.now)) result ≡ slice_get self.now.entry.messages k }
+        ensures sorted { AreByTag self.now.entry.messages }
+    {
+        match self.messages.iter().nth(k) {
+            None => None,
+            Some((tag, text)) => Some((tag.as_str(), text.as_str())),
+        }
+    }
+
+    /// The k-th tag that is off.
+    pub(crate) fn off_at(&self, k: usize) -> Option<&str>
+        ensures value { option_map (λ r. r.now) result ≡ option_map (λ p. p.0) (slice_get self.now.entry.off k) }
+        ensures sorted { AreByTag self.now.entry.off }
+    {
+        match self.off.iter().nth(k) {
+            None => None,
+            Some((tag, _)) => Some(tag.as_str()),
+        }
     }
 }

@@ -1,5 +1,5 @@
 //! What holds of the definitions that the contracts cite.
-ghost use Rattle.wl_rules.specs.RuleLaws.{IsInOrderAtFirst, StaysInOrder, StaysInOrderWithout};
+ghost use Rattle.wl_rules.specs.RuleLaws.{IsInOrderAtFirst, StaysInOrder, StaysInOrderWithout, IsInOrderAfter, StandAsTheyCame};
 
 /// Rules are always in the order of their keys.
 #[tactic(auto, using(crate::proofs::RuleOrder::removed_in_order))]
@@ -7,4 +7,10 @@ pub fn rules_stay_in_order()
     ensures none { IsInOrderAtFirst }
     ensures put { StaysInOrder }
     ensures taken { StaysInOrderWithout }
+{}
+
+/// However a list came about, its rules are in the order of their keys, and those of equal keys in the order in which they came.
+pub fn rules_stand_as_they_came()
+    ensures sorted { IsInOrderAfter }
+    ensures stable { StandAsTheyCame }
 {}

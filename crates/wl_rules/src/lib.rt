@@ -12,8 +12,11 @@ mod rule;
 mod rule_list;
 mod rule_set;
 mod rule_sets;
+mod start;
 mod store;
 mod table;
+#[cfg(test)]
+mod tests;
 
 pub use attribute::{Attribute, Attributes};
 pub use fault::StoreFault;

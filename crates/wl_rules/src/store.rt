@@ -1,15 +1,17 @@
 //! The store of definitions.
-ghost use Rattle.std.specs.Prelude.{◌≡◌, ◌≤◌, ◌↔◌, ℕ, None, IfOk, IfSome, IsNone, IsSome, OnOk, OnErr, true, false, option_map, is_some};
+ghost use Rattle.std.specs.Prelude.{◌≡◌, ◌≤◌, ◌↔◌, ℕ, None, IfOk, IfSome, IsNone, IsSome, OnOk, OnErr, true, false, option_map, is_some, slice_get};
 ghost use Rattle.std.specs.Bool.{OnTrue, OnFalse};
 ghost use Rattle.wl_expr.specs.Stamped.{plain};
 ghost use Rattle.wl_expr.specs.Words.{Name};
 ghost use Rattle.wl_ports.specs.Counted.{add_to_last};
 ghost use Rattle.wl_rules.specs.Attributes.{AttributeSet};
-ghost use Rattle.wl_rules.specs.Changes.{Defines, Draws, IsShown, empty_store, with_name, IsProtected};
+ghost use Rattle.wl_rules.specs.Changes.{Defines, Draws, IsShown, with_name, IsProtected};
 ghost use Rattle.wl_rules.specs.Entries.{of_kind, put_rule, remove_rule, cleared, with_attributes, with_rules, no_rules, put_message, set_off, left_side, value_at, map_rules};
 ghost use Rattle.wl_rules.specs.RuleLists.{has_left};
 ghost use Rattle.wl_rules.specs.StampedRules.{left_of, plain_rule};
+ghost use Rattle.wl_rules.specs.Start.{start_store};
 ghost use Rattle.wl_rules.specs.Stored.{IsIndex, name_at, version_at, entry_at, definitions, changed, next_version};
+ghost use Rattle.wl_rules.specs.Tags.{AreByTag};
 
 use crate::attribute::Attributes;
 use crate::entry::Entry;
@@ -17,11 +19,15 @@ use crate::fault::StoreFault;
 use crate::rule::{Rule, RuleKind};
 use crate::rule_list::RuleList;
 use crate::rule_sets::RuleSets;
+use crate::start::start;
 use crate::table::Table;
 use std::alloc::Global;
 use std::marker::Model;
 use wl_expr::Expr;
 use wl_ports::{Ledger, Memory, Work};
+
+#[cfg(test)]
+mod tests;
 
 /// The definitions of all names. Each name that was met has an index, which stays, and an entry. Each change of an entry
 /// draws a version for it, greater than all before, up to the greatest number of 64 bits, which is given again and again.
@@ -47,14 +53,15 @@ impl Model for Store {
 }
 
 impl Store {
-    pub(crate) fn empty(alloc: Global) -> Store
-        ensures { result ≡ empty_store }
+    /// The store with the symbols of the tables, in the tables' order, and what they have at the start.
+    pub fn new(alloc: Global) -> Result<Store, Memory>
+        ensures { IfOk result (λ s. s ≡ start_store) }
     {
-        Store {
+        Ok(Store {
             alloc,
-            table: Table::new(alloc),
+            table: start(alloc)?,
             drawn: 0,
-        }
+        })
     }
 
     /// What the store has of a name. None where it has no entry of that name.
@@ -294,6 +301,7 @@ impl Model for Saved {
 }
 
 /// What the store has of a name, but for its rules.
+#[derive(Drop)]
 pub struct EntryView<'a> {
     index: u64,
     entry: &'a Entry,
@@ -340,6 +348,22 @@ impl<'a> EntryView<'a> {
         ensures { result ≡ is_some (value_at tag.now self.now.off) }
     {
         self.entry.is_off(tag)
+    }
+
+    /// The tag and the text of the k-th message, from 0, in the order of the tags' bytes.
+    pub fn message_at(&self, k: usize) -> Option<(&str, &str)>
+        ensures value { option_map (λ p. (p.0.now, p.1.now)) result ≡ slice_get self.now.messages k }
+        ensures sorted { AreByTag self.now.messages }
+    {
+        self.entry.message_at(k)
+    }
+
+    /// The k-th tag that is switched off, from 0, in the order of the tags' bytes.
+    pub fn off_at(&self, k: usize) -> Option<&str>
+        ensures value { option_map (λ r. r.now) result ≡ option_map (λ p. p.0) (slice_get self.now.off k) }
+        ensures sorted { AreByTag self.now.off }
+    {
+        self.entry.off_at(k)
     }
 }
 

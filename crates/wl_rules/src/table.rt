@@ -4,6 +4,7 @@ ghost use Rattle.std.specs.Borrow.{sem};
 ghost use Rattle.wl_rules.specs.Changes.{AreDistinct};
 ghost use Rattle.wl_rules.specs.Entries.{value_at};
 ghost use Rattle.wl_rules.specs.Lending.{LendsEntry};
+ghost use Rattle.wl_rules.specs.Starting.{with_row};
 ghost use Rattle.wl_rules.specs.Stored.{new_slot, row_at};
 
 use crate::entry::Entry;
@@ -70,6 +71,15 @@ impl Table {
     {
         let _len = self.entries.len();
         &mut self.entries[at]
+    }
+
+    /// Puts an entry in the place of a name's own, or behind the others where the name is new.
+    pub(crate) fn put(&mut self, alloc: Global, name: &str, entry: Entry) -> Result<(), Memory>
+        ensures { OnOk result (self.new ≡ with_row name.now entry self.old) }
+    {
+        let name = String::from_str(alloc, name)?;
+        self.entries.insert(name, entry)?;
+        Ok(())
     }
 
     /// Adds an empty entry behind the others, and gives its place.
