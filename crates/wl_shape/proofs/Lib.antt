@@ -6,3 +6,4 @@ mod Faults
 mod Splits
 mod Splices
 mod Threads
+mod Parameters

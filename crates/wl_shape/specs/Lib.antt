@@ -4,6 +4,8 @@ pub mod Scopes
 pub mod Fill
 pub mod Laws
 pub mod Sizes
--- What contracts see of answers and of elements.
+-- What contracts see of answers and of elements; what serves filling.
 pub mod Answers
 pub mod Elements
+pub mod Locals
+pub mod Renewed

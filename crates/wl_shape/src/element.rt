@@ -13,7 +13,7 @@ use wl_expr::{Expr, ExprFault, Look};
 use wl_ports::Memory;
 
 /// Whether the expression is the symbol of this name.
-fn is_symbol(e: &Expr, name: &str) -> bool
+pub(crate) fn is_symbol(e: &Expr, name: &str) -> bool
     ensures { result ≡ is_the name.now (plain e.now) }
 {
     match e.view() {
