@@ -1,0 +1,11 @@
+-- The definitions: what a turn does to the elements of a node, and what stands in a body where names are filled.
+pub mod Shape
+pub mod Scopes
+pub mod Fill
+pub mod Laws
+pub mod Sizes
+-- What contracts see of answers and of elements; what serves filling.
+pub mod Answers
+pub mod Elements
+pub mod Locals
+pub mod Renewed

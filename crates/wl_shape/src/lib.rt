@@ -1,0 +1,15 @@
+//! What a turn does to the elements of a node.
+#![tactic(auto)]
+
+mod arrangement;
+mod element;
+pub mod laws;
+mod renewal;
+mod scopes;
+mod splicing;
+mod threading;
+
+pub use arrangement::{Shaped, arrange};
+
+#[cfg(test)]
+mod tests;
