@@ -9,6 +9,8 @@ pub mod Chains
 pub mod CutsLemmas
 pub mod Finds
 pub mod LentLemmas
+pub mod LooksLemmas
+pub mod Picks
 pub mod PatternLemmas
 pub mod Subjects
 pub mod WalkLemmas

@@ -69,7 +69,7 @@ length_sizes : (ss : List Part) (n : ℕ) → n < length ss → length (sizes_of
 length_sizes ss n l = omega (arith, length-map (table [] (take n ss)) size, length_table [] (take n ss), length-take n ss)
 
 -- what a part names stands before it
-behind_at : (n : ℕ) (ss : List Part) (i : ℕ) (s : Part) → i < length ss → s ≡ get_or ss i s → IsBehind n ss → All (λ j. j < n + i) (inside s)
+pub behind_at : (n : ℕ) (ss : List Part) (i : ℕ) (s : Part) → i < length ss → s ≡ get_or ss i s → IsBehind n ss → All (λ j. j < n + i) (inside s)
 behind_at n [] i s l e h = absurd (omega arith)
 behind_at n (r ∷ ss) zero s l e h = all_up n (n + 0) (inside s) (omega arith) (subst (λ z. All (λ j. j < n) (inside z)) (sym e) h.0)
 behind_at n (r ∷ ss) (suc i) s l e h = all_up (n + 1 + i) (n + suc i) (inside s) (omega arith) (behind_at (n + 1) ss i s (omega arith) e h.1)

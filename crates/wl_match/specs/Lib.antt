@@ -13,3 +13,4 @@ pub mod Runs
 pub mod Nested
 pub mod Means
 pub mod Plays
+pub mod Left

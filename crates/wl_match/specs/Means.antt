@@ -1,8 +1,8 @@
 -- What the numbers of a search mean, for the parts of a pattern and a subject.
-use Rattle.std.specs.Prelude.{◌≡◌, ℕ, zero, suc, ◌+◌, ◌-◌, ◌≤◌, Bool, true, List, [], ◌∷◌, ◌++◌, take, drop, map, length, string_bytes, Option, Some, None, get_or, nat_eq, nat_lt}
+use Rattle.std.specs.Prelude.{◌≡◌, ℕ, zero, suc, ◌+◌, ◌-◌, ◌≤◌, ◌<◌, Bool, true, false, List, [], ◌∷◌, ◌++◌, take, drop, map, reverse, length, string_bytes, Option, Some, None, get_or, nat_eq, nat_lt}
 use denote.Bor.{Bor}
 use Rattle.wl_expr.specs.Tree.{Tree, symbol}
-use Rattle.wl_expr.specs.Stamped.{plain}
+use Rattle.wl_expr.specs.Stamped.{Stamped, plain}
 use Rattle.wl_match.specs.declared.flags.Flags.{Flags}
 use Rattle.wl_match.specs.declared.part.Part.{Part}
 use Rattle.wl_match.specs.declared.part.Part.TheVariants as part
@@ -15,8 +15,10 @@ use Rattle.wl_match.specs.declared.taken.Mark.TheVariants.{Bound, Noted}
 use Rattle.wl_match.specs.declared.stack.Cell.{Cell}
 use Rattle.wl_match.specs.declared.taken.Choice.{Choice}
 use Rattle.wl_match.specs.Pattern.{Count, one, some, any, no_flags, Ask, applies, holds, refuses, Pat, Pats, end, also}
-use Rattle.wl_match.specs.Search.{Entry, bound, noted, Trail, Leaf, leaves, Cont, fail, found, or_fail, bind, note, run_of}
-use Rattle.wl_match.specs.Trials.{Site, Took, trials, members, in_turn, elements, takes, pick, shaped, stretches, absent, default_of, name_of, each_length}
+use Rattle.wl_match.specs.Search.{Entry, bound, noted, Trail, Leaf, Search, leaves, Cont, fail, found, or_fail, bind, note, run_of}
+use Rattle.wl_match.specs.Trials.{least, lengths, Site, Took, trials, members, in_turn, elements, takes, pick, shaped, stretches, absent, default_of, name_of, each_length}
+use Rattle.std.specs.List.{All}
+use Rattle.wl_match.specs.Parts as parts
 use Rattle.wl_match.specs.Parts.{nothing, pat, pat_of, pats_of}
 use Rattle.wl_match.specs.Runs.{part_at, run_at}
 
@@ -126,6 +128,7 @@ after ss t cells ms (c ∷ cs) =
 pub record IsPart (ss : List Part) (i : ℕ) (s : Part) : Type 0 where
   pub part : part_at ss i ≡ s
   pub is : pat ss i ≡ pat_of (pat ss) s
+  pub behind : All (λ j. j < i) (parts.inside s)
 
 pub record NoPart (ss : List Part) (i : ℕ) : Type 0 where
   pub part : part_at ss i ≡ part.Hold 0
@@ -144,3 +147,31 @@ allows_length any n = true
 abbrev pub BindsTo : List Part → List ℕ → Mark → Option (Bor Taken) → Type 0
 BindsTo ss x m None = (t : Tree) (e : List Entry) → run_of x (entry_of ss t m ∷ e) ≡ run_of x e
 BindsTo ss x m (Some r) = (t : Tree) (e : List Entry) → run_of x (entry_of ss t m ∷ e) ≡ Some (run_at ss t r.now)
+
+-- the lengths that the first pattern from the j-th on may take, of n expressions
+abbrev pub HasSpan : List Part → ℕ → ℕ → ℕ → ℕ → ℕ → Type 0
+HasSpan ss i j n low count = (p : Pat) (ps : Pats) → from_child ss i j ≡ also p ps → (low ≡ least (site_at ss i) p ps n) × (count ≡ lengths (site_at ss i) p ps n)
+
+-- the j-th of the patterns inside part i
+abbrev pub IsChild : List Part → ℕ → ℕ → Option ℕ → Type 0
+IsChild ss i j None = from_child ss i j ≡ end
+IsChild ss i j (Some q) = from_child ss i j ≡ also (pat ss q) (from_child ss i (j + 1))
+
+abbrev pub nowhere : Site
+nowhere = record { head = symbol []; flags = no_flags }
+
+abbrev pub site_of : Part → Site
+site_of s = record { head = head_at s; flags = flags_at s }
+
+-- the head of a part that is a node
+abbrev pub IsHead : Part → Option (Bor Stamped) → Type 0
+IsHead s None = site_of s ≡ nowhere
+IsHead s (Some h) = head_at s ≡ plain h.now
+
+abbrev pub IsHeadAt : List Part → ℕ → Option (Bor Stamped) → Type 0
+IsHeadAt ss i o = IsHead (part_at ss i) o
+
+-- whether there is more than this length: a longer one, or a default
+abbrev pub has_later : ℕ → Option ℕ → Bool
+has_later n None = nat_lt 1 n
+has_later n (Some d) = true

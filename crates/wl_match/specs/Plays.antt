@@ -1,6 +1,6 @@
 -- What a step of a search keeps.
-use Rattle.std.specs.Prelude.{◌≡◌, ℕ, ◌<◌, Bool, true, false, List, [], ◌∷◌, ◌++◌, reverse, Option, Some, None}
-use Rattle.wl_expr.specs.Tree.{Tree}
+use Rattle.std.specs.Prelude.{◌≡◌, ℕ, ◌+◌, ◌<◌, ◌≤◌, Bool, true, false, List, [], ◌∷◌, ◌++◌, reverse, length, Option, Some, None, ⊤}
+use Rattle.wl_expr.specs.Tree.{Tree, node, to_list}
 use Rattle.wl_match.specs.declared.part.Part.{Part}
 use Rattle.wl_match.specs.declared.taken.Goal.{Goal}
 use Rattle.wl_match.specs.declared.taken.Mark.{Mark}
@@ -10,14 +10,14 @@ use Rattle.wl_match.specs.declared.leaf.Step.{Step}
 use Rattle.wl_match.specs.declared.leaf.Step.TheVariants.{Went, Failed}
 use Rattle.wl_match.specs.declared.leaf.Leaf.{Leaf as Answer}
 use Rattle.wl_match.specs.declared.leaf.Leaf.TheVariants as answer
-use Rattle.wl_match.specs.Search.{Trail, Leaf, Fail, Found, Search, leaves, height, guard}
-use Rattle.wl_match.specs.Pattern.{Count}
+use Rattle.wl_match.specs.Search.{Trail, Leaf, Fail, Found, Search, Cont, later, leaves, height, fail, guard, or_fail}
+use Rattle.wl_match.specs.Pattern.{Count, Pat, Pats, nodes}
 use Rattle.wl_match.specs.Parts.{inner_or_blank, pat}
-use Rattle.wl_match.specs.Runs.{run_at}
-use Rattle.wl_match.specs.Trials.{allows, is_one, trials}
+use Rattle.wl_match.specs.Runs.{part_at, run_at}
+use Rattle.wl_match.specs.Trials.{Site, Took, absent, allows, default_of, elements, is_one, name_of, trials}
 use Rattle.wl_match.specs.declared.taken.Taken.{Taken}
-use Rattle.wl_match.specs.declared.taken.Goal.TheVariants.{Turn, Note}
-use Rattle.wl_match.specs.Means.{conts, entries, entry_of, after, goals_at, goal_means}
+use Rattle.wl_match.specs.declared.taken.Goal.TheVariants.{Elements, Turn, Note}
+use Rattle.wl_match.specs.Means.{conts, entries, entry_of, after, from_child, goals_at, goal_means, flags_at, head_at, site_at, taking}
 
 -- what is to be done
 unfoldable pub goals_of : Walk → List Goal
@@ -110,3 +110,34 @@ abbrev pub Reaches : List Part → Tree → List Leaf → Answer → Walk → Ty
 Reaches ss t ls answer.Fail new = ls ≡ Fail ∷ rest ss t new
 Reaches ss t ls answer.Candidate new = ls ≡ Found (trail_of ss t new) ∷ rest ss t new
 Reaches ss t ls answer.End new = (ls ≡ []) × (rest ss t new ≡ [])
+
+-- an element on a run, and the elements from the next on what is left
+abbrev pub taken_before : List Part → Tree → Walk → ℕ → ℕ → ℕ → Took
+taken_before ss t old i next q r l =
+    taking (site_at ss i) next (pat ss q) (from_child ss i next) (λ d. conts ss t (goals_of old) d) (trail_of ss t old) r l
+
+abbrev pub taken_by : List Part → Tree → Walk → ℕ → ℕ → ℕ → Took
+taken_by ss t old i j q r l = taken_before ss t old i (j + 1) q r l
+
+-- an element is absent
+abbrev pub skipping : List Part → Tree → Walk → ℕ → ℕ → ℕ → Taken → Search
+skipping ss t old i j q r =
+    or_fail (absent (default_of (site_at ss i) (j + 1) (pat ss q)) (name_of (pat ss q)) (λ d. goal_means ss t (Elements i (j + 1) r) (λ f. conts ss t (goals_of old) f) d) (trail_of ss t old))
+
+-- a node on the head and the elements of a tree
+abbrev pub opened : Site → Pat → Pats → Tree → Cont → Cont
+opened s hp ps (node g us) k e = later (trials hp (g ∷ []) (λ d. elements s 1 ps (to_list us) k d) e)
+opened s hp ps _ k e = fail
+
+abbrev pub opening : List Part → Tree → Walk → ℕ → ℕ → Tree → Search
+opening ss t old i hp u = opened (site_at ss i) (pat ss hp) (from_child ss i 0) u (λ d. conts ss t (goals_of old) d) (trail_of ss t old)
+
+-- a part that is a node on a run
+abbrev pub noding : List Part → Tree → Walk → ℕ → ℕ → Taken → Search
+noding ss t old i hp r =
+    trials (nodes (flags_at (part_at ss i)) (head_at (part_at ss i)) (pat ss hp) (from_child ss i 0)) (run_at ss t r) (λ d. conts ss t (goals_of old) d) (trail_of ss t old)
+
+-- to another search, with the same choices
+pub record Turns (ss : List Part) (t : Tree) (s : Search) (old new : Walk) : Type 0 where
+  pub now_is : now ss t new ≡ s
+  pub rest_is : rest ss t new ≡ rest ss t old

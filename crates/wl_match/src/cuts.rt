@@ -1,12 +1,15 @@
 //! Parts of runs.
-ghost use Rattle.std.specs.Prelude.{◌≡◌, [], take, drop, List, IfOk};
+ghost use Rattle.std.specs.Prelude.{ℕ, ◌≡◌, ◌++◌, ◌∷◌, [], true, take, drop, map, List, IfOk};
 ghost use Rattle.wl_expr.specs.Tree.{Tree};
 ghost use Rattle.wl_match.specs.declared.part.Part.{Part};
 ghost use Rattle.std.specs.Prelude as list;
 ghost use Rattle.wl_expr.specs.Stamped.{plain};
-ghost use Rattle.wl_match.specs.Runs.{elements_of, run_at, tree_at};
+ghost use Rattle.wl_match.specs.Means.{tree_among};
+ghost use Rattle.wl_match.specs.Runs.{elements_of, kept_at, picked, run_at, tree_at};
+ghost use Rattle.wl_match.specs.Trials.{shaped};
 
 use crate::lent::lend;
+use crate::looks::sum;
 use crate::pattern::Pattern;
 use crate::places::Places;
 use crate::taken::{Place, Taken};
@@ -88,5 +91,146 @@ pub(crate) fn cut(alloc: Global, run: &Taken, from: usize, count: usize) -> Resu
             let left = cut_places(alloc, places, from, count)?;
             Ok(Taken::Picked(place.copy()?, left))
         }
+    }
+}
+
+/// These places of a run that begins at a place of its node, as places there.
+fn shifted(alloc: Global, chosen: &[u32], start: usize, n: usize) -> Result<Places, Memory>
+    ensures { IfOk result (λ p. (u : Tree) (m : ℕ) → n ≡ list.length (take m (drop start (elements_of u)))
+        → picked u p ≡ map (tree_among (take m (drop start (elements_of u)))) chosen.now) }
+{
+    let mut all = Places::new(alloc);
+    for place in chosen {
+        if *place as usize >= n {
+            return Err(Memory);
+        }
+        let at = match start.checked_add(*place as usize) {
+            Some(at) => at,
+            None => return Err(Memory),
+        };
+        all.push(short(at)?)?;
+    }
+    Ok(all)
+}
+
+/// The places that stand at these places.
+fn selected(alloc: Global, chosen: &[u32], places: &[u32]) -> Result<Places, Memory>
+    ensures { IfOk result (λ p. (u : Tree) → picked u p ≡ map (tree_among (picked u places.now)) chosen.now) }
+{
+    let mut all = Places::new(alloc);
+    for at in chosen {
+        if *at as usize >= places.len() {
+            return Err(Memory);
+        }
+        all.push(places[*at as usize])?;
+    }
+    Ok(all)
+}
+
+/// The same of a run of one expression.
+fn pick_one(run: &Taken, place: &Place, chosen: &[u32]) -> Result<Taken, Memory>
+    ensures { IfOk result (λ r. (ss : List Part) (t u : Tree) → run_at ss t run.now ≡ u ∷ []
+        → run_at ss t r ≡ map (tree_among (u ∷ [])) chosen.now) }
+{
+    if chosen.is_empty() {
+        return none_of(place);
+    }
+    if chosen.len() == 1 && chosen[0] == 0 {
+        return run.copy();
+    }
+    Err(Memory)
+}
+
+/// The expressions at these places of a run.
+pub(crate) fn pick(
+    alloc: Global,
+    pattern: &Pattern,
+    subject: &Expr,
+    run: &Taken,
+    chosen: &[u32],
+) -> Result<Taken, Memory>
+    ensures { IfOk result (λ r. run_at pattern.now (plain subject.now) r
+        ≡ map (tree_among (run_at pattern.now (plain subject.now) run.now)) chosen.now) }
+{
+    match run {
+        Taken::Tree(place) => pick_one(run, place, chosen),
+        Taken::Wrapped(_, place, _) => pick_one(run, place, chosen),
+        Taken::Slice(place, start, _) => {
+            let all = shifted(alloc, chosen, *start, length(pattern, subject, run))?;
+            Ok(Taken::Picked(place.copy()?, all))
+        }
+        Taken::Picked(place, places) => {
+            let all = selected(alloc, chosen, places.as_slice())?;
+            Ok(Taken::Picked(place.copy()?, all))
+        }
+    }
+}
+
+/// The places, and behind them all others from one on, below a number.
+fn with_others(places: &Places, from: usize, count: usize) -> Result<Places, Memory>
+    ensures { IfOk result (λ p. (ts : List Tree) → count ≡ list.length ts
+        → map (tree_among ts) p ≡ map (tree_among ts) places.now ++ drop from ts) }
+{
+    let mut all = places.copy()?;
+    let mut at = from;
+    while at < count {
+        all.push(short(at)?)?;
+        at += 1;
+    }
+    Ok(all)
+}
+
+/// The expressions at these places of a run, and behind them all others from one on.
+pub(crate) fn others(
+    alloc: Global,
+    pattern: &Pattern,
+    subject: &Expr,
+    run: &Taken,
+    places: &Places,
+    from: usize,
+) -> Result<Taken, Memory>
+    ensures { IfOk result (λ r. run_at pattern.now (plain subject.now) r
+        ≡ map (tree_among (run_at pattern.now (plain subject.now) run.now)) places.now ++ drop from (run_at pattern.now (plain subject.now) run.now)) }
+{
+    let all = with_others(places, from, length(pattern, subject, run))?;
+    let taken = pick(alloc, pattern, subject, run, all.as_slice())?;
+    Ok(taken)
+}
+
+/// The places of the elements of a run in its node.
+fn places_of(alloc: Global, start: usize, n: usize) -> Result<Places, Memory>
+    ensures { IfOk result (λ p. (u : Tree) (m : ℕ) → n ≡ list.length (take m (drop start (elements_of u)))
+        → picked u p ≡ take m (drop start (elements_of u))) }
+{
+    let mut all = Places::new(alloc);
+    for at in 0..n {
+        all.push(short(sum(start, at)?)?)?;
+    }
+    Ok(all)
+}
+
+/// A run of two and more as one expression under the head of the part.
+pub(crate) fn wrapped(
+    alloc: Global,
+    pattern: &Pattern,
+    subject: &Expr,
+    part: usize,
+    run: &Taken,
+) -> Result<Taken, Memory>
+    ensures { IfOk result (λ r. run_at pattern.now (plain subject.now) r
+        ≡ shaped true (kept_at pattern.now (plain subject.now) part) (run_at pattern.now (plain subject.now) run.now)) }
+{
+    let n = length(pattern, subject, run);
+    if n < 2 {
+        return run.copy();
+    }
+    match run {
+        Taken::Tree(_) => run.copy(),
+        Taken::Wrapped(_, _, _) => run.copy(),
+        Taken::Slice(place, start, _) => {
+            let places = places_of(alloc, *start, n)?;
+            Ok(Taken::Wrapped(part, place.copy()?, places))
+        }
+        Taken::Picked(place, places) => { Ok(Taken::Wrapped(part, place.copy()?, places.copy()?)) }
     }
 }

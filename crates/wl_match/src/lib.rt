@@ -2,6 +2,7 @@
 #![tactic(auto)]
 
 mod cuts;
+mod elements;
 mod flags;
 mod forms;
 mod heads;
@@ -10,18 +11,22 @@ pub mod laws;
 mod leaf;
 mod lent;
 mod looks;
+mod machine;
 mod part;
 mod pattern;
 mod places;
 mod size;
 mod sorts;
 mod stack;
+mod steps;
 mod taken;
 mod walk;
 mod walking;
 
 pub use flags::Flags;
 pub use heads::{head_at, head_count};
+pub use leaf::Leaf;
+pub use machine::Machine;
 pub use pattern::Pattern;
 
 #[cfg(test)]

@@ -3,8 +3,9 @@ ghost use Rattle.std.specs.Prelude.{◌≡◌, ◌+◌, ◌-◌, ◌≤◌, pos,
 ghost use Rattle.std.specs.List.{All};
 ghost use Rattle.wl_expr.specs.Passed.{IsFrom};
 ghost use Rattle.wl_expr.specs.Stamped.{Stamped, num, plain, plains, from_list};
-ghost use Rattle.wl_expr.specs.Tree.{node};
-ghost use Rattle.wl_expr.specs.Words.{Name, is_node};
+ghost use Rattle.wl_expr.specs.Tree.{Tree, node};
+ghost use Rattle.wl_expr.specs.Words.{Name, is_node, natural};
+ghost use Rattle.wl_match.specs.Runs.{kept_at};
 ghost use Rattle.wl_match.specs.Heads.{head_symbol, heads, heads_above, heads_in};
 ghost use Rattle.wl_exact.specs.Fraction.{of_int};
 ghost use Rattle.wl_match.specs.Means.{Looked};
@@ -52,10 +53,9 @@ impl Model for Pattern {
 }
 
 impl Pattern {
-    /// Where the default of a sum stands.
-    pub(crate) const ZERO: usize = 0;
-    /// Where the default of a product stands.
-    pub(crate) const ONE: usize = 1;
+    const ZERO: usize = 0;
+
+    const ONE: usize = 1;
 
     /// The pattern that the expression is, with the flags of the symbols that are heads of its nodes, in their order.
     pub fn prepare(alloc: Global, p: &Expr, flags: &[Flags]) -> Result<Pattern, Memory>
@@ -69,6 +69,22 @@ impl Pattern {
         build(alloc, p, flags, 0, &mut parts)?;
         let sizes = all_sizes(alloc, parts.as_slice())?;
         Ok(Pattern { parts, sizes })
+    }
+
+    /// Where the default of a sum stands.
+    pub(crate) fn zero(&self) -> usize
+        ensures { (t : Tree) → kept_at self.now t result ≡ natural 0 }
+    {
+        let _ = &self.parts;
+        Pattern::ZERO
+    }
+
+    /// Where the default of a product stands.
+    pub(crate) fn one(&self) -> usize
+        ensures { (t : Tree) → kept_at self.now t result ≡ natural 1 }
+    {
+        let _ = &self.parts;
+        Pattern::ONE
     }
 
     /// The place of the whole pattern.

@@ -30,7 +30,7 @@ fn number_head(n: &Num) -> &'static str
 }
 
 /// Whether the expression has this head.
-pub(crate) fn has_head(t: &Expr, head: &Expr) -> bool
+fn has_head(t: &Expr, head: &Expr) -> bool
     ensures { result ≡ trees.same (plain head.now) (head_of (plain t.now)) }
 {
     match t.view() {
@@ -61,15 +61,22 @@ fn items_have(items: &Items<'_, '_>, head: &Expr) -> bool
     true
 }
 
+/// Whether each expression of the run has this head.
+pub(crate) fn have(run: &Lent<'_, '_>, head: &Expr) -> bool
+    ensures { result ≡ trials.all_have (Some (plain head.now)) (trees_of run.now) }
+{
+    match run {
+        Lent::These(items) => items_have(items, head),
+        Lent::Wrapped(own, _) => same(head, *own),
+    }
+}
+
 /// Whether each expression of the run has the head that is asked for, if one is.
 pub(crate) fn all_have(run: &Lent<'_, '_>, head: &Option<Expr>) -> bool
     ensures { result ≡ trials.all_have (option_map plain head.now) (trees_of run.now) }
 {
     match head {
         None => true,
-        Some(head) => match run {
-            Lent::These(items) => items_have(items, head),
-            Lent::Wrapped(own, _) => same(head, *own),
-        },
+        Some(head) => have(run, head),
     }
 }

@@ -1,0 +1,9 @@
+use Rattle.wl_expr.specs.Stamped.{plain}
+use Rattle.wl_match.proofs.Arms as arms
+use Rattle.wl_match.proofs.walk.Walk.take_turns.Goals as goal
+
+pub returns-then-n-eq0 : goal.returns-then-n-eq0
+returns-then-n-eq0 c = arms.turns_end c.args.pattern.now (plain c.args.subject.now) c.args.i c.args.run.now c.args.self.now _ c.length-n.ensures c.if-n-eq0.true
+
+pub returns : goal.returns
+returns c = arms.turns_on c.args.pattern.now (plain c.args.subject.now) c.args.i c.args.run.now _ _ c.args.self.now _ _ _ c.length-n.ensures c.if-n-eq0.false (c.in_ok-first.ensures c.args.pattern.now (plain c.args.subject.now)) (c.in_ok-others.ensures c.args.pattern.now (plain c.args.subject.now)) c.in_ok-put.ensures c.in_ok-put-2.ensures

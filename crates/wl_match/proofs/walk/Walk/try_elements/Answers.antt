@@ -1,0 +1,7 @@
+use Rattle.std.proofs.Common.{◌≡◌, ◌∷◌, [], ◌++◌, refl, ap, sym, ◌∙◌, true, false, arith}
+use Rattle.wl_expr.specs.Stamped.{plain}
+use Rattle.wl_match.proofs.Arms as arms
+use Rattle.wl_match.proofs.walk.Walk.try_elements.Goals as goal
+
+pub returns : goal.returns
+returns c = arms.elements_plays c.args.pattern.now (plain c.args.subject.now) c.args.i c.args.j _ _ _ c.args.left.now _ c.args.self.now _ _ c.inside.ensures c.if-j-inside.false c.length-n.ensures c.in_ok-span.ensures c.in_ok-copy.ensures c.in_ok-put.ensures

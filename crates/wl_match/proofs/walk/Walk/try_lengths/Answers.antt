@@ -1,0 +1,10 @@
+use Rattle.std.proofs.Common.{◌≡◌, ◌<◌, ◌∷◌, [], ◌++◌, ◌+◌, refl, ap, sym, ◌∙◌, subst, length, true, false, arith}
+use Rattle.wl_expr.specs.Stamped.{plain}
+use Rattle.wl_match.proofs.Picks as picks
+use Rattle.wl_match.proofs.walk.Walk.try_lengths.Goals as goal
+
+pub returns-then-has_later : goal.returns-then-has_later
+returns-then-has_later c = picks.lengths_more c.args.pattern.now (plain c.args.subject.now) c.args.i c.args.j c.in-Some.q c.args.low _ c.args.count _ c.args.left.now _ _ _ c.args.self.now _ _ c.in-Some.ensures c.default_at.ensures c.if-count-eq0.false c.has_later.ensures c.if-has_later.true c.in_ok-longer.ensures refl c.in_ok-copy.ensures c.in_ok-keep.ensures c.in_ok-take_length.ensures
+
+pub returns : goal.returns
+returns c = picks.lengths_last c.args.pattern.now (plain c.args.subject.now) c.args.i c.args.j c.in-Some.q c.args.low c.args.count c.args.left.now _ _ c.args.self.now _ c.in-Some.ensures c.default_at.ensures c.if-count-eq0.false c.has_later.ensures c.if-has_later.false c.in_ok-take_length-2.ensures
