@@ -5,6 +5,7 @@ pub mod Trials
 pub mod Heads
 pub mod Followed
 pub mod Placed
+pub mod Left
 -- What serves the proofs.
 pub mod Sought
 pub mod Parts
@@ -13,4 +14,3 @@ pub mod Runs
 pub mod Nested
 pub mod Means
 pub mod Plays
-pub mod Left

@@ -4,8 +4,9 @@ pub mod Scopes
 pub mod Fill
 pub mod Laws
 pub mod Sizes
--- What contracts see of answers and of elements; what serves filling.
+-- What contracts see of answers and of elements.
 pub mod Answers
 pub mod Elements
+-- What serves the proofs.
 pub mod Locals
 pub mod Renewed
