@@ -1,10 +1,10 @@
 -- The steps of a walk, by what its first goal is.
-use Rattle.std.proofs.Common.{◌≡◌, ◌≢◌, ◌-◌, ◌↔◌, ◌<◌, ◌≤◌, ◌+◌, ◌&&◌, ℕ, zero, suc, Bool, true, false, List, [], ◌∷◌, ◌++◌, length, map, take, drop, get_or, Option, Some, None, refl, ap, sym, subst, ◌∙◌, arith, append_assoc}
+use Rattle.std.proofs.Common.{◌≡◌, ◌≢◌, ◌-◌, ◌<◌, ◌≤◌, ◌+◌, ◌&&◌, ℕ, Bool, true, false, List, [], ◌∷◌, ◌++◌, length, take, drop, get_or, Option, Some, None, refl, ap, sym, subst, ◌∙◌, arith, append_assoc}
 use Rattle.std.specs.Option.{option_map}
 use Rattle.std.proofs.lemmas.List.{append-nil, take_all}
-use Rattle.std.specs.Prelude.{string_bytes, Vec}
+use Rattle.std.specs.Prelude.{Vec}
 use Rattle.std.specs.Global.{Global}
-use Rattle.wl_expr.specs.Tree.{Tree, node, to_list}
+use Rattle.wl_expr.specs.Tree.{Tree}
 use Rattle.wl_expr.specs.Same.{same_lists}
 use Rattle.wl_expr.specs.Stamped.{Stamped, plain}
 use Rattle.wl_match.specs.declared.part.Part.{Part}
@@ -13,20 +13,20 @@ use Rattle.wl_match.specs.declared.part.Number.{Number}
 use Rattle.wl_match.specs.declared.taken.Taken.{Taken}
 use Rattle.wl_match.specs.declared.taken.Taken.TheVariants as taken
 use Rattle.wl_match.specs.declared.taken.Goal.{Goal}
-use Rattle.wl_match.specs.declared.taken.Goal.TheVariants.{Match, Members, Turn, Elements, Lengths, Pick, Bind, Note}
+use Rattle.wl_match.specs.declared.taken.Goal.TheVariants.{Match, Members, Turn, Elements, Lengths, Bind, Note}
 use Rattle.wl_match.specs.declared.taken.Mark.{Mark}
-use Rattle.wl_match.specs.declared.taken.Mark.TheVariants.{Bound, Noted}
+use Rattle.wl_match.specs.declared.taken.Mark.TheVariants.{Bound}
 use Rattle.wl_match.specs.declared.walk.Walk.{Walk}
 use Rattle.wl_match.specs.declared.leaf.Step.{Step}
 use Rattle.wl_match.specs.declared.leaf.Step.TheVariants.{Went, Failed}
-use Rattle.wl_match.specs.Pattern.{Count, one, some, any, blank, Pat, named, tested, Pats, end, also}
-use Rattle.wl_match.specs.Search.{Trail, Entry, bound, noted, Leaf, Fail, Found, Search, leaf, later, either, leaves, height, Cont, found, guard, or_else, or_fail, bind, bind_on, note, run_of}
+use Rattle.wl_match.specs.Pattern.{Count, one, some, any, blank, named, tested, also}
+use Rattle.wl_match.specs.Search.{Trail, bound, Leaf, Fail, Found, Search, leaf, later, either, leaves, height, Cont, guard, or_else, or_fail, bind, bind_on, note, run_of}
 use Rattle.wl_match.specs.Trials.{least, lengths, is_one, trials, members, elements, in_turn, allows, all_have, Trials}
-use Rattle.wl_match.specs.Parts.{count_of, inner_or_blank, nothing, pat, pat_of, pats_of, whole}
+use Rattle.wl_match.specs.Parts.{count_of, inner_or_blank, pat, pat_of, pats_of, whole}
 use Rattle.wl_match.specs.Runs.{part_at, run_at}
 use Rattle.wl_match.specs.Means.{allows_length, name_at, ask_at, children, HasSpan, lengths_on, site_at, inside, from_child, IsPart, NoPart, goal_means, conts, entry_of, entries}
 use Rattle.wl_match.proofs.Finds.{child_at, past_child}
-use Rattle.wl_match.specs.Plays.{IsEmpty, excepting, repeating, goals_of, trail_of, rest, now, Puts, Keeps, Marks, Takes, Goes, Plays, Expands, expanding, step_of, Reaches}
+use Rattle.wl_match.specs.Plays.{IsEmpty, excepting, repeating, goals_of, trail_of, rest, now, Puts, Keeps, Marks, Takes, Goes, Plays, expanding, step_of}
 
 pub plays_as : (ss : List Part) (t : Tree) (s s' : Search) (m n : Walk) (d : Step) → s ≡ s' → Plays ss t s' m d n → Plays ss t s m d n
 plays_as ss t s s' m n d e h = subst (λ z. Plays ss t z m d n) (sym e) h

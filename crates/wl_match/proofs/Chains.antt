@@ -1,12 +1,11 @@
 -- Lists of goals that share what follows.
-use Rattle.std.proofs.Common.{◌≡◌, ◌≢◌, ◌<◌, ◌≤◌, ◌+◌, ◌-◌, ℕ, zero, suc, min, List, [], ◌∷◌, ◌++◌, length, get_or, take, Option, Some, None, refl, ap, sym, subst, ◌∙◌, arith, length-append, inl, inr}
-use Rattle.std.proofs.lemmas.List.{length-take-le, take-append-drop}
+use Rattle.std.proofs.Common.{◌≡◌, ◌≢◌, ◌<◌, ◌≤◌, ◌-◌, ℕ, zero, suc, min, List, [], ◌∷◌, ◌++◌, length, get_or, refl, ap, sym, ◌∙◌, arith, length-append, inl, inr}
 use Rattle.std.proofs.Math.ListN.{get_or-append}
 use Rattle.std.proofs.Math.Seq.{get_or-append_seam}
 use Rattle.std.proofs.lemmas.Bool.{cases_lt}
 use Rattle.wl_match.specs.declared.taken.Goal.{Goal}
 use Rattle.wl_match.specs.declared.stack.Cell.{Cell}
-use Rattle.wl_match.specs.Means.{link, chain, cell_at, no_cell, goals_at, Firsts}
+use Rattle.wl_match.specs.Means.{link, chain, cell_at, no_cell, goals_at}
 
 -- cells behind make no difference
 pub chain_more : (cs ds : List Cell) (k n : ℕ) → k ≤ length cs → chain (cs ++ ds) k n ≡ chain cs k n

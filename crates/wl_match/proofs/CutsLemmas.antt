@@ -1,16 +1,8 @@
 -- Parts of runs.
-use Rattle.std.proofs.Common.{◌++◌, true, append_assoc, get_or, ◌≡◌, ◌<◌, ◌≤◌, ◌+◌, ◌-◌, ℕ, zero, suc, min, List, [], ◌∷◌, length, map, take, drop, refl, ap, sym, ◌∙◌, arith, inl, inr}
-use Rattle.std.proofs.lemmas.Bool.{cases_lt}
-use Rattle.std.proofs.lemmas.List.{take-take, take_all, drop_all, drop-drop, take-map, drop-map, length-take, length-drop, append-nil, get_or-map, map-append, take_more}
-use Rattle.std.proofs.Math.Seq.{drop-cons}
-use Rattle.wl_expr.specs.Tree.{Tree, symbol, node, from_list}
-use Rattle.wl_match.specs.Means.{tree_among}
-use Rattle.wl_match.specs.Trials.{shaped}
-use Rattle.wl_match.specs.declared.part.Part.{Part}
-use Rattle.wl_match.specs.declared.taken.Place.{Place}
-use Rattle.wl_match.specs.declared.taken.Taken.{Taken}
-use Rattle.wl_match.specs.declared.taken.Taken.TheVariants as taken
-use Rattle.wl_match.specs.Runs.{element_at, elements_of, picked, run_at, tree_at}
+use Rattle.std.proofs.Common.{◌≡◌, ◌<◌, ◌+◌, ◌-◌, ℕ, zero, suc, min, List, [], ◌∷◌, take, drop, refl, ap, sym, ◌∙◌, arith}
+use Rattle.std.proofs.lemmas.List.{drop-drop, take-map, drop-map}
+use Rattle.wl_expr.specs.Tree.{Tree}
+use Rattle.wl_match.specs.Runs.{element_at, picked}
 
 nil_left : {A : Type 0} (c f : ℕ) → take {A = A} c (drop f []) ≡ []
 nil_left zero zero = refl

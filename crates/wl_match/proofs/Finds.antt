@@ -1,6 +1,6 @@
 -- Bindings that are looked up.
 use Rattle.std.proofs.lemmas.List.{drop_all}
-use Rattle.std.proofs.Common.{None, ◌≤◌, ◌≡◌, ◌<◌, ◌+◌, ℕ, suc, Bool, true, false, arith, List, [], ◌∷◌, ◌++◌, length, get_or, drop, Option, Some, refl, ap, sym, ◌∙◌}
+use Rattle.std.proofs.Common.{None, ◌≤◌, ◌≡◌, ◌<◌, ◌+◌, ℕ, suc, Bool, true, false, arith, List, [], ◌∷◌, ◌++◌, length, get_or, drop, Some, ap, sym, ◌∙◌}
 use Rattle.std.proofs.Math.Seq.{drop-cons}
 use Rattle.std.specs.Str.{bytes_eq}
 use Rattle.wl_expr.specs.Tree.{Tree}

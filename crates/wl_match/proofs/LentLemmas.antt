@@ -1,14 +1,13 @@
 -- Runs that are lent, expression by expression.
-use Rattle.std.proofs.Common.{◌≡◌, ◌≢◌, ◌↔◌, ◌<◌, ◌≤◌, ◌+◌, ◌&&◌, ℕ, zero, suc, Bool, true, false, List, [], ◌∷◌, length, map, get_or, drop, Option, Some, None, refl, ap, sym, subst, ◌∙◌, arith}
+use Rattle.std.proofs.Common.{◌≡◌, ◌≢◌, ◌↔◌, ◌<◌, ◌≤◌, ◌+◌, ◌&&◌, ℕ, zero, suc, Bool, true, false, List, [], ◌∷◌, length, map, get_or, drop, Option, Some, None, refl, ap, sym, ◌∙◌, arith}
 use Rattle.std.specs.Prelude.{slice_get}
 use Rattle.std.proofs.Math.Bool.{and-true}
 use Rattle.std.proofs.lemmas.List.{drop_all}
-use Rattle.std.specs.Bool.{Decides, IsTrue, one_answer}
+use Rattle.std.specs.Bool.{IsTrue, one_answer}
 use Rattle.wl_expr.specs.Tree.{Tree, Trees, node, none, more, to_list, from_list, to_list_from_list}
 use Rattle.wl_expr.specs.Same.{same, all_same, same_lists, same_decides}
 use Rattle.wl_expr.specs.Stamped.{Stamped, plain, plains, from_list as from}
-use Rattle.wl_expr.specs.Words.{head_of}
-use Rattle.wl_match.specs.Trials.{has_head, all_have}
+use Rattle.wl_match.specs.Trials.{all_have}
 use Rattle.wl_match.specs.Runs.{both_same, is_headed}
 use Rattle.wl_match.proofs.Subjects.{trees_of}
 

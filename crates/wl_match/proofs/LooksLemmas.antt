@@ -1,5 +1,5 @@
 -- What a search asks a pattern, part by part.
-use Rattle.std.proofs.Common.{◌≡◌, ◌<◌, ◌≤◌, ◌+◌, ◌-◌, ℕ, zero, suc, Bool, true, false, ◌||◌, ◌&&◌, List, [], ◌∷◌, length, get_or, drop, max, Option, Some, None, refl, ap, sym, subst, ◌∙◌, arith, inl, inr}
+use Rattle.std.proofs.Common.{◌≡◌, ◌<◌, ◌≤◌, ◌+◌, ◌-◌, ℕ, suc, Bool, true, false, ◌||◌, List, [], ◌∷◌, length, get_or, drop, max, Option, Some, None, refl, ap, sym, subst, ◌∙◌, arith, inl, inr}
 use Rattle.std.specs.List.{All}
 use Rattle.std.proofs.lemmas.List.Elements.{All-head}
 use Rattle.std.proofs.lemmas.Bool.{cases_lt}
@@ -7,15 +7,15 @@ use Rattle.std.proofs.Math.Seq.{drop-cons}
 use Rattle.std.proofs.lemmas.List.{drop_all}
 use Rattle.wl_expr.specs.Tree.{Tree, num, text, symbol, node}
 use Rattle.wl_expr.specs.Same.{same}
-use Rattle.wl_expr.specs.Stamped.{Stamped, plain}
+use Rattle.wl_expr.specs.Stamped.{plain}
 use Rattle.wl_expr.specs.Words.{is_the, natural}
 use Rattle.wl_match.specs.declared.part.Part.{Part}
 use Rattle.wl_match.specs.declared.part.Part.TheVariants as part
-use Rattle.wl_match.specs.Pattern.{Pat, Pats, end, also, exactly, is_optional, any_optional, need, most, plus, stretchable}
+use Rattle.wl_match.specs.Pattern.{Pat, end, also, exactly, is_optional, any_optional, need, plus}
 use Rattle.wl_match.specs.Parts.{inside, nothing, pat, pat_of, pats_of, IsBehind}
 use Rattle.wl_match.specs.Runs.{keeps, kept_at, or_tree, part_at}
-use Rattle.wl_match.specs.Means.{IsPart, from_child, head_at, flags_at, site_at, HasSpan}
-use Rattle.wl_match.specs.Trials.{Site, beyond, least, lengths, most_under, mosts, need_present, needs, stretches, within}
+use Rattle.wl_match.specs.Means.{IsPart, from_child, site_at, HasSpan}
+use Rattle.wl_match.specs.Trials.{Site, beyond, least, most_under, mosts, need_present, needs, within}
 use Rattle.wl_match.proofs.LentLemmas.{same_turned}
 use Rattle.wl_match.proofs.PartsLemmas.{pat_is}
 use Rattle.wl_match.proofs.PatternLemmas.{no_pat}

@@ -1,5 +1,5 @@
 -- The parts of a pattern by their places.
-use Rattle.std.proofs.Common.{◌≡◌, ◌<◌, ◌≤◌, ◌+◌, ℕ, zero, suc, List, [], ◌∷◌, length, map, get_or, pos, Option, Some, None, refl, ap, sym, subst, ◌∙◌, arith}
+use Rattle.std.proofs.Common.{◌≡◌, ◌<◌, ◌≤◌, ◌+◌, ℕ, List, [], ◌∷◌, length, get_or, pos, ap, sym, subst, ◌∙◌, arith}
 use Rattle.std.specs.List.{All}
 use Rattle.std.proofs.lemmas.List.Elements.{All-cons, All-nil}
 use Rattle.std.proofs.lemmas.List.{get_or_default, get_or_past, length-map}
@@ -10,11 +10,9 @@ use Rattle.wl_exact.specs.Fraction.{of_int}
 use Rattle.wl_match.specs.declared.part.Part.{Part}
 use Rattle.wl_match.specs.declared.part.Part.TheVariants as part
 use Rattle.wl_match.specs.declared.size.Size.{Size}
-use Rattle.wl_match.specs.Pattern.{Pat}
-use Rattle.wl_match.specs.Parts.{at, inside, table, nothing, pat, pat_of, kept, kept_by, IsBehind, HasDefaults}
+use Rattle.wl_match.specs.Parts.{inside, table, nothing, pat, pat_of, kept, IsBehind, HasDefaults}
 use Rattle.wl_match.specs.Sizes.{size, sizes_of}
 use Rattle.wl_match.specs.Means.{IsPart, NoPart}
-use Rattle.wl_match.specs.Runs.{part_at}
 use Rattle.wl_match.proofs.PartsLemmas.{pat_is, length_table}
 use Rattle.wl_match.proofs.SizesLemmas.{behind_at}
 

@@ -3,7 +3,7 @@ use Rattle.std.proofs.Common.{◌≡◌, ◌≢◌, ◌<◌, ◌≤◌, ◌+◌,
 use Rattle.std.specs.Prelude.{nat_lt, Vec}
 use Rattle.std.specs.Global.{Global}
 use Rattle.std.specs.Option.{option_map}
-use Rattle.std.proofs.lemmas.Bool.{cases_lt, lt-ltb, ltb-true}
+use Rattle.std.proofs.lemmas.Bool.{lt-ltb, ltb-true}
 use Rattle.std.proofs.lemmas.List.{take_all, drop_all, length-map, length-drop, map-append}
 use Rattle.std.proofs.Math.Seq.{drop-cons}
 use Rattle.std.proofs.Math.Bool.{and-true}
@@ -23,9 +23,9 @@ use Rattle.wl_match.specs.declared.leaf.Step.{Step}
 use Rattle.wl_match.specs.declared.leaf.Step.TheVariants.{Went, Failed}
 use Rattle.wl_match.specs.Pattern.{Pat, Pats, also, any_optional, nodes, stretchable}
 use Rattle.wl_match.specs.Search.{Trail, Fail, Search, leaf, later, either, leaves, Cont, fail, or_else, or_fail}
-use Rattle.wl_match.specs.Trials.{Site, Took, absent, all_have, default_of, each_length, elements, name_of, pick, shaped, stretches, takes, trials}
+use Rattle.wl_match.specs.Trials.{Took, absent, all_have, default_of, each_length, elements, name_of, pick, shaped, stretches, takes, trials}
 use Rattle.wl_match.specs.Parts.{pat, pat_of, pats_of}
-use Rattle.wl_match.specs.Runs.{child, element_at, elements_of, follow, keeps, kept_at, part_at, or_tree, picked, root_at, run_at, tree_at}
+use Rattle.wl_match.specs.Runs.{child, element_at, elements_of, keeps, kept_at, part_at, or_tree, picked, root_at, run_at, tree_at}
 use Rattle.wl_match.specs.Means.{IsPart, children, conts, flags_at, from_child, goal_means, has_later, head_at, inside, lengths_on, name_at, picks_on, site_at, taking, tree_among}
 use Rattle.wl_match.specs.Plays.{Goes, Keeps, Plays, Puts, Turns, expanding, goals_of, noding, now, opened, opening, rest, skipping, taken_before, taken_by, trail_of}
 use Rattle.wl_match.proofs.Arms.{plays_as, plays_fail, plays_kept, plays_put, puts_two}

@@ -1,6 +1,6 @@
 -- The parts of a tree, as trees.
-use Rattle.std.proofs.Common.{◌≡◌, ◌≢◌, ◌+◌, ◌++◌, true, ◌<◌, ◌≤◌, ◌-◌, subst, ℕ, zero, suc, List, [], ◌∷◌, length, get_or, map, take, drop, refl, ap, sym, ◌∙◌, arith}
-use Rattle.wl_expr.specs.Tree.{Tree, Trees, node, to_list, from_list, to_list_from_list}
+use Rattle.std.proofs.Common.{◌≡◌, ◌≢◌, ◌++◌, ◌<◌, ◌≤◌, ◌-◌, ℕ, zero, suc, List, [], ◌∷◌, length, get_or, map, take, drop, refl, ap, sym, ◌∙◌, arith}
+use Rattle.wl_expr.specs.Tree.{Tree, node, to_list, to_list_from_list}
 use Rattle.wl_expr.specs.Stamped.{Stamped, plain, plains, from_list as from}
 use Rattle.wl_expr.proofs.Parts.{plains_from_list}
 use Rattle.std.proofs.lemmas.List.{take-map, drop-map}

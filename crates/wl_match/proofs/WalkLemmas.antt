@@ -1,5 +1,5 @@
 -- What the steps of a walk change.
-use Rattle.std.proofs.Common.{◌≡◌, ◌<◌, ◌≤◌, ◌+◌, ℕ, zero, suc, Bool, true, false, List, [], ◌∷◌, ◌++◌, length, map, reverse, take, Option, Some, None, Result, Ok, Err, MatchResult, refl, ap, sym, subst, ◌∙◌, arith, append_assoc, length-append, le_trans}
+use Rattle.std.proofs.Common.{◌≡◌, ◌≤◌, ◌+◌, ℕ, true, false, List, [], ◌∷◌, ◌++◌, length, reverse, take, Some, None, Result, Ok, Err, MatchResult, refl, ap, sym, subst, ◌∙◌, arith, length-append, le_trans}
 use Rattle.std.proofs.lemmas.List.{take-append-le, map-append, length-take-le, take_all}
 use Rattle.wl_expr.specs.Tree.{Tree}
 use Rattle.wl_match.specs.declared.part.Part.{Part}
@@ -8,9 +8,9 @@ use Rattle.wl_match.specs.declared.taken.Mark.{Mark}
 use Rattle.wl_match.specs.declared.stack.Cell.{Cell}
 use Rattle.wl_match.specs.declared.taken.Choice.{Choice}
 use Rattle.wl_match.specs.declared.walk.Walk.{Walk}
-use Rattle.wl_match.specs.Search.{Leaf, leaves}
-use Rattle.wl_match.specs.Means.{conts, entries, entry_of, after, goals_at, Firsts}
-use Rattle.wl_match.specs.Plays.{IsEmpty, goals_of, trail_of, rest, now, Puts, Keeps, Marks, Takes, Returns, FirstChoice}
+use Rattle.wl_match.specs.Search.{leaves}
+use Rattle.wl_match.specs.Means.{conts, entries, entry_of, after, goals_at}
+use Rattle.wl_match.specs.Plays.{IsEmpty, goals_of, trail_of, rest, Puts, Keeps, Marks, Takes, Returns}
 use Rattle.wl_match.specs.Nested.{IsNested, IsWhole}
 use Rattle.wl_match.proofs.Chains.{put_first, goals_more}
 

@@ -1,5 +1,5 @@
 -- What the numbers of a search mean, for the parts of a pattern and a subject.
-use Rattle.std.specs.Prelude.{◌≡◌, ℕ, zero, suc, ◌+◌, ◌-◌, ◌≤◌, ◌<◌, Bool, true, false, List, [], ◌∷◌, ◌++◌, take, drop, map, reverse, length, string_bytes, Option, Some, None, get_or, nat_eq, nat_lt}
+use Rattle.std.specs.Prelude.{◌≡◌, ℕ, zero, suc, ◌+◌, ◌-◌, ◌≤◌, ◌<◌, Bool, true, List, [], ◌∷◌, ◌++◌, take, drop, map, length, string_bytes, Option, Some, None, get_or, nat_eq, nat_lt}
 use denote.Bor.{Bor}
 use Rattle.wl_expr.specs.Tree.{Tree, symbol}
 use Rattle.wl_expr.specs.Stamped.{Stamped, plain}
@@ -15,7 +15,7 @@ use Rattle.wl_match.specs.declared.taken.Mark.TheVariants.{Bound, Noted}
 use Rattle.wl_match.specs.declared.stack.Cell.{Cell}
 use Rattle.wl_match.specs.declared.taken.Choice.{Choice}
 use Rattle.wl_match.specs.Pattern.{Count, one, some, any, no_flags, Ask, applies, holds, refuses, Pat, Pats, end, also}
-use Rattle.wl_match.specs.Search.{Entry, bound, noted, Trail, Leaf, Search, leaves, Cont, fail, found, or_fail, bind, note, run_of}
+use Rattle.wl_match.specs.Search.{Entry, bound, noted, Trail, Leaf, leaves, Cont, fail, found, or_fail, bind, note, run_of}
 use Rattle.wl_match.specs.Trials.{least, lengths, Site, Took, trials, members, in_turn, elements, takes, pick, shaped, stretches, absent, default_of, name_of, each_length}
 use Rattle.std.specs.List.{All}
 use Rattle.wl_match.specs.Parts as parts

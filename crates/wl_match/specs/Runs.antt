@@ -1,6 +1,6 @@
 -- The trees of a run that is named by places in a subject and in the parts of a pattern.
-use Rattle.std.specs.Prelude.{ℕ, zero, suc, Bool, false, List, [], ◌∷◌, take, drop, map, length, get_or, Option, Some, None}
-use Rattle.wl_expr.specs.Tree.{Tree, symbol, node, to_list, from_list}
+use Rattle.std.specs.Prelude.{ℕ, zero, suc, Bool, false, List, [], ◌∷◌, take, drop, map, get_or, Option, Some, None}
+use Rattle.wl_expr.specs.Tree.{Tree, node, to_list, from_list}
 use Rattle.wl_expr.specs.Same.{same}
 use Rattle.wl_expr.specs.Words.{head_of}
 use Rattle.wl_expr.specs.Stamped.{plain}

@@ -1,5 +1,4 @@
-use Rattle.std.proofs.Common.{◌≡◌, ◌<◌, ◌∷◌, [], ◌++◌, ◌+◌, refl, ap, sym, ◌∙◌, subst, length, true, false, arith, rules}
-use Rattle.wl_expr.specs.Stamped.{plain}
+use Rattle.std.proofs.Common.{◌<◌, refl, rules}
 use Rattle.wl_match.proofs.LooksLemmas as lemmas
 use Rattle.wl_match.proofs.pattern.Pattern.+is_stretchable.Goals as goal
 

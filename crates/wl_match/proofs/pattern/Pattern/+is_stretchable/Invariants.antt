@@ -1,5 +1,3 @@
-use Rattle.std.proofs.Common.{◌≡◌, ℕ, ◌+◌, ◌-◌, ◌++◌, map, take, drop, length}
-use Rattle.wl_expr.specs.Tree.{Tree}
 use Rattle.wl_match.proofs.pattern.Pattern.+is_stretchable.Given as goal
 
 abbrev pub decreases-is_stretchable : goal.decreases-is_stretchable

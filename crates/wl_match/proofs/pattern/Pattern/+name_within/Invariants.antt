@@ -1,5 +1,3 @@
-use Rattle.std.proofs.Common.{◌≡◌, ℕ, ◌+◌, ◌-◌, ◌++◌, map, take, drop, length}
-use Rattle.wl_expr.specs.Tree.{Tree}
 use Rattle.wl_match.proofs.pattern.Pattern.+name_within.Given as goal
 
 abbrev pub decreases-name_within : goal.decreases-name_within

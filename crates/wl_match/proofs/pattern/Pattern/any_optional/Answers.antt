@@ -1,5 +1,3 @@
-use Rattle.std.proofs.Common.{◌≡◌, ◌<◌, ◌∷◌, [], ◌++◌, ◌+◌, refl, ap, sym, ◌∙◌, subst, length, true, false, arith, rules}
-use Rattle.wl_expr.specs.Stamped.{plain}
 use Rattle.wl_match.proofs.LooksLemmas as lemmas
 use Rattle.wl_match.specs.Parts.{pat}
 use Rattle.wl_match.proofs.pattern.Pattern.any_optional.Goals as goal

@@ -1,5 +1,4 @@
-use Rattle.std.proofs.Common.{◌≡◌, ℕ, ◌+◌, ◌-◌, ◌++◌, map, take, drop, length}
-use Rattle.wl_expr.specs.Tree.{Tree}
+use Rattle.std.proofs.Common.{◌≡◌, ◌+◌, ◌-◌, drop, length}
 use Rattle.wl_match.specs.Parts.{pat, pats_of}
 use Rattle.wl_match.specs.Pattern.{plus}
 use Rattle.wl_match.specs.Means.{site_at}

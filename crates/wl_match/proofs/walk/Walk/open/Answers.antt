@@ -1,4 +1,4 @@
-use Rattle.std.proofs.Common.{◌≡◌, ◌<◌, ◌∷◌, [], ◌++◌, ◌+◌, refl, ap, sym, ◌∙◌, subst, get_or, length, true, false, arith}
+use Rattle.std.proofs.Common.{◌+◌, ap, ◌∙◌, get_or}
 use Rattle.wl_expr.specs.Stamped.{plain}
 use Rattle.wl_match.proofs.Picks as picks
 use Rattle.wl_match.proofs.walk.Walk.open.Goals as goal

@@ -1,4 +1,4 @@
-use Rattle.std.proofs.Common.{◌≡◌, ◌<◌, ◌∷◌, [], ◌++◌, ◌+◌, refl, ap, sym, ◌∙◌, subst, length, true, false, arith}
+use Rattle.std.proofs.Common.{refl}
 use Rattle.wl_expr.specs.Stamped.{plain}
 use Rattle.wl_match.proofs.Picks as picks
 use Rattle.wl_match.proofs.walk.Walk.open_at.Goals as goal

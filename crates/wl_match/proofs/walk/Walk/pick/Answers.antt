@@ -1,4 +1,4 @@
-use Rattle.std.proofs.Common.{◌≡◌, ◌<◌, ◌∷◌, [], ◌++◌, ◌+◌, refl, ap, sym, ◌∙◌, subst, length, map, true, false, arith}
+use Rattle.std.proofs.Common.{refl, ap, ◌∙◌, map}
 use Rattle.wl_expr.specs.Stamped.{plain}
 use Rattle.wl_match.specs.Means.{tree_among}
 use Rattle.wl_match.specs.Runs.{run_at}

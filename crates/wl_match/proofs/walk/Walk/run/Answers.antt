@@ -1,7 +1,5 @@
-use Rattle.std.proofs.Common.{◌≡◌, ◌∷◌, [], ◌++◌, refl, ap, sym, ◌∙◌, true, false, arith}
 use Rattle.wl_expr.specs.Stamped.{plain}
 use Rattle.wl_match.proofs.Arms as arms
-use Rattle.wl_match.proofs.Finds as finds
 use Rattle.wl_match.proofs.walk.Walk.run.Goals as goal
 
 pub returns-in-Failed : goal.returns-in-Failed

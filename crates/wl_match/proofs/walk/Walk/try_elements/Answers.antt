@@ -1,4 +1,3 @@
-use Rattle.std.proofs.Common.{◌≡◌, ◌∷◌, [], ◌++◌, refl, ap, sym, ◌∙◌, true, false, arith}
 use Rattle.wl_expr.specs.Stamped.{plain}
 use Rattle.wl_match.proofs.Arms as arms
 use Rattle.wl_match.proofs.walk.Walk.try_elements.Goals as goal
