@@ -7,6 +7,7 @@ pub mod Tabulated
 pub mod Arrays
 pub mod Flattening
 pub mod Partitions
+pub mod Ranges
 pub mod Joining
 pub mod Functions
 pub mod Strings
@@ -16,3 +17,4 @@ pub mod Laws
 pub mod Answers
 pub mod Kinds
 pub mod Alike
+pub mod RangesInside
