@@ -5,4 +5,5 @@ mod FirstTimes
 mod Heavy
 mod Makings
 pub mod Rows
+pub mod Spanning
 mod Splits

@@ -7,6 +7,7 @@ pub mod Tabulated
 pub mod Arrays
 pub mod Flattening
 pub mod Partitions
+pub mod Ranges
 pub mod Joining
 pub mod Functions
 pub mod Strings
@@ -17,3 +18,4 @@ pub mod Answers
 pub mod Kinds
 -- What serves the proofs.
 pub mod Alike
+pub mod RangesInside

@@ -165,3 +165,22 @@ pub(crate) fn give_list(
 {
     give_form(alloc, "List", made?.as_slice())
 }
+
+/// The result, and a message that comes with it.
+pub(crate) fn give_noticed(notice: Notice, e: Expr) -> Result<Applied, ExprFault>
+    ensures answer { IsAnswer (noticed (plain_notice notice) (plain e)) result }
+    ensures passed { (ms : List Stamped) → NoticeIsFrom ms notice → IsFrom ms e → IsPassed ms result }
+{
+    let _weight = e.weight();
+    Ok(Applied::Notice(notice, e))
+}
+
+/// `Overflow[]`, with its message.
+pub(crate) fn overflow(alloc: Global) -> Result<Applied, ExprFault>
+    ensures answer { IsAnswer overflowed result }
+    ensures passed { (ms : List Stamped) → IsPassed ms result }
+{
+    let head = symbol(alloc, "Overflow")?;
+    let form = Expr::node(alloc, &head, &[])?;
+    give_noticed(Notice::Overflow, form)
+}

@@ -72,7 +72,7 @@ pub(crate) fn delete_duplicates_row(alloc: Global, args: &[Expr]) -> Result<Appl
 
 /// The elements of a node; an atom has none.
 #[tactic(auto, using(wl_expr::proofs::Parts::to_list_plains))]
-fn elements(e: &Expr) -> &[Expr]
+pub(crate) fn elements(e: &Expr) -> &[Expr]
     ensures value { trees result.now ≡ elements (plain e.now) }
     ensures passed { (ms : List Stamped) → IsFrom ms e.now → AllFrom ms result.now }
 {

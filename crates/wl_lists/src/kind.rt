@@ -17,10 +17,12 @@ use crate::flattening::flatten_row;
 use crate::functions::{evaluate_row, identity_row, release_hold_row, total_row};
 use crate::joining::{delete_duplicates_row, join_row, sort_row, union_row};
 use crate::partitions::partition_row;
+use crate::ranges::range_row;
 use crate::segments::{drop_row, take_row};
 use crate::strings::{
     characters_row, make_boxes_row, string_join_row, string_length_row, to_string_row,
 };
+use crate::transposing::transpose_row;
 use std::alloc::Global;
 use wl_expr::{Applied, Expr, ExprFault};
 
@@ -46,7 +48,9 @@ pub enum Kind {
     Take,
     Drop,
     Flatten,
+    Range,
     Total,
+    Transpose,
     Partition,
     Apply,
     MapApply,
@@ -87,7 +91,9 @@ impl Kind {
             "Take" => Some(Kind::Take),
             "Drop" => Some(Kind::Drop),
             "Flatten" => Some(Kind::Flatten),
+            "Range" => Some(Kind::Range),
             "Total" => Some(Kind::Total),
+            "Transpose" => Some(Kind::Transpose),
             "Partition" => Some(Kind::Partition),
             "Apply" => Some(Kind::Apply),
             "MapApply" => Some(Kind::MapApply),
@@ -141,7 +147,9 @@ fn row(kind: Kind, alloc: Global, args: &[Expr]) -> Result<Applied, ExprFault>
         Kind::Take => take_row(alloc, args),
         Kind::Drop => drop_row(alloc, args),
         Kind::Flatten => flatten_row(alloc, args),
+        Kind::Range => range_row(alloc, args),
         Kind::Total => total_row(alloc, args),
+        Kind::Transpose => transpose_row(alloc, args),
         Kind::Partition => partition_row(alloc, args),
         Kind::Apply => apply_row(alloc, args),
         Kind::MapApply => map_apply_row(alloc, args),

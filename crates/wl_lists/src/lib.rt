@@ -12,8 +12,10 @@ mod joining;
 mod kind;
 pub mod laws;
 mod partitions;
+mod ranges;
 mod segments;
 mod strings;
+mod transposing;
 
 pub use kind::{Kind, apply};
 

@@ -354,3 +354,56 @@ fn lists_characters(rt: HostRuntime) -> Result<(), Fail> {
     gives(&rt, alloc, "Characters", &[whole(alloc, 12)?], "-")?;
     Ok(())
 }
+
+#[test]
+fn transposes(rt: HostRuntime) -> Result<(), Fail> {
+    let alloc = rt.alloc();
+    let f = numbers(&rt, alloc)?;
+    let one = whole(alloc, 1)?;
+    let two = whole(alloc, 2)?;
+    let row = list(&rt, alloc, &[one.copy()?, two])?;
+    let other = list(&rt, alloc, &[f.copy()?, one])?;
+    let short = list(&rt, alloc, &[f])?;
+    let even = list(&rt, alloc, &[row.copy()?, other])?;
+    let uneven = list(&rt, alloc, &[row.copy()?, short.copy()?])?;
+    let single = list(&rt, alloc, &[short])?;
+    gives(
+        &rt,
+        alloc,
+        "Transpose",
+        &[even],
+        "List[List[1, f[1, 2, 3]], List[2, 1]]",
+    )?;
+    gives(&rt, alloc, "Transpose", &[single], "List[List[f[1, 2, 3]]]")?;
+    gives(&rt, alloc, "Transpose", &[uneven], "-")?;
+    gives(&rt, alloc, "Transpose", &[row], "-")?;
+    Ok(())
+}
+
+#[test]
+fn counts_up_and_down(rt: HostRuntime) -> Result<(), Fail> {
+    let alloc = rt.alloc();
+    let one = whole(alloc, 1)?;
+    let two = whole(alloc, 2)?;
+    let none = whole(alloc, 0)?;
+    let half = number(alloc, -1, 2)?;
+    let most = whole(alloc, i128::MAX)?;
+    gives(&rt, alloc, "Range", &[two.copy()?], "List[1, 2]")?;
+    gives(&rt, alloc, "Range", &[none.copy()?], "List[]")?;
+    gives(
+        &rt,
+        alloc,
+        "Range",
+        &[one.copy()?, none.copy()?, half],
+        "List[1, Rational[1, 2], 0]",
+    )?;
+    gives(
+        &rt,
+        alloc,
+        "Range",
+        &[most.copy()?, most.copy()?],
+        "List[170141183460469231731687303715884105727]",
+    )?;
+    gives(&rt, alloc, "Range", &[one, two, none], "-")?;
+    Ok(())
+}
