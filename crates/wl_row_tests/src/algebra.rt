@@ -1,11 +1,16 @@
 //! Rows of the table on trees that are made by hand, with the values of a second writing of these functions.
-use crate::trees::symbol;
 use std::alloc::Global;
 use std::process::Abort;
 use std::test::Fail;
 use wl_algebra::apply;
 use wl_exact::Num;
 use wl_expr::{Applied, Expr, Notice};
+use wl_ports::is_name;
+
+fn symbol(rt: &impl Abort, alloc: Global, name: &str) -> Result<Expr, Fail> {
+    assert!(rt; is_name(name));
+    Ok(Expr::symbol(alloc, name)?)
+}
 
 /// The last expressions, as many as the word says, in their order.
 fn taken(alloc: Global, stack: &mut Vec<Expr>, count: &str) -> Result<Vec<Expr>, Fail> {

@@ -1,9 +1,5 @@
-//! Tests of the rows of built-in functions: of loops and branches, and of arithmetic.
+//! Tests of the built-in functions that look at their elements alone.
 #![tactic(auto)]
 
 #[cfg(test)]
 mod algebra;
-#[cfg(test)]
-mod control;
-#[cfg(test)]
-mod trees;

@@ -1,13 +1,5 @@
-//! Tests of definitions: of rules, left sides, stamps and messages.
+//! Tests of definitions: of rules, attributes and messages in a store.
 #![tactic(auto)]
 
 #[cfg(test)]
-mod assign;
-#[cfg(test)]
-mod desk;
-#[cfg(test)]
 mod rules;
-#[cfg(test)]
-mod stamps;
-#[cfg(test)]
-mod trees;

@@ -1,10 +1,10 @@
 //! Rows of the public calls.
-use crate::trees::{number, symbol};
 use std::alloc::Global;
 use std::process::Abort;
 use std::test::Fail;
+use wl_exact::Num;
 use wl_expr::Expr;
-use wl_ports::{NoLedger, Work};
+use wl_ports::{NoLedger, Work, is_name};
 use wl_rules::{Attribute, Attributes, Rule, RuleKind, RuleList, Store, StoreFault};
 
 /// The tree of these words, in which `/n` makes a node of the last n trees and of the one before them as head.
@@ -36,8 +36,15 @@ fn leaf(rt: &impl Abort, alloc: Global, word: &str) -> Result<Expr, Fail> {
         "0" => number(alloc, 0),
         "1" => number(alloc, 1),
         "2" => number(alloc, 2),
-        _ => symbol(rt, alloc, word),
+        _ => {
+            assert!(rt; is_name(word));
+            Ok(Expr::symbol(alloc, word)?)
+        }
     }
+}
+
+fn number(alloc: Global, n: i128) -> Result<Expr, Fail> {
+    Ok(Expr::num(alloc, Num::int(n).ok_or("in range")?)?)
 }
 
 /// A new store. What it holds is left to the tests.

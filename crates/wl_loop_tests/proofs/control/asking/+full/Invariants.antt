@@ -1,7 +1,7 @@
 use Rattle.std.proofs.Common.{◌+◌, ◌*◌}
 use Rattle.wl_expr.specs.Tree.{depth, depths}
 use Rattle.wl_expr.specs.Stamped.{plain, plains, from_list}
-use Rattle.wl_row_tests.proofs.control.asking.+full.Given as goal
+use Rattle.wl_loop_tests.proofs.control.asking.+full.Given as goal
 
 abbrev pub decreases-full : goal.decreases-full
 decreases-full l = 2 * depth (plain l.e.now)

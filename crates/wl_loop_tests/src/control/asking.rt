@@ -5,13 +5,18 @@ ghost use Rattle.wl_control.specs.Places.{plain_ask};
 ghost use Rattle.wl_control.specs.Stand.{IsAskedBy, evaluate};
 ghost use Rattle.wl_expr.specs.Stamped.{plain};
 
-use crate::trees::symbol;
 use std::alloc::Global;
 use std::process::Abort;
 use std::test::Fail;
 use wl_control::{Ask, Cursor, Last};
 use wl_exact::Num;
 use wl_expr::{Expr, Look};
+use wl_ports::is_name;
+
+fn symbol(rt: &impl Abort, alloc: Global, name: &str) -> Result<Expr, Fail> {
+    assert!(rt; is_name(name));
+    Ok(Expr::symbol(alloc, name)?)
+}
 
 /// A number: `3`, `-3`, `1/2`.
 fn number(alloc: Global, text: &str) -> Result<Option<Expr>, Fail> {

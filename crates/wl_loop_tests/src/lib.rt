@@ -1,0 +1,5 @@
+//! Tests of loops and branches.
+#![tactic(auto)]
+
+#[cfg(test)]
+mod control;
