@@ -55,8 +55,11 @@ x; y; f[<P>]; f[<P>]; f[<p>, <p>]; g[<P>]; h[<p>, <P>]; h[<p>, <p>, <p>]; f[x_] 
 ATTRIBUTES = """
 Flat; Orderless; Listable; HoldFirst; HoldAll; HoldRest; OneIdentity; SequenceHold; HoldAllComplete; Protected; {Flat, Orderless}; {Flat, OneIdentity}
 """
+DEFINITIONS = """
+<D> = <E>; <D> := <B>; <D> := <B>; f[<P>] := <B>; f[<P>] := <B>; g[<P>] := <B>; x = <E>
+"""
 CELLS = """
-<E>; <E>; <E>; <E>; <D> = <E>; <D> = <E>; <D> := <B>; <D> := <B>; <D> := <B>; {x, y} = {<E>, <E>}; {x, y} = <L>; {f[1], {x, y}} = {<e>, <L>}
+{x, y} = {<E>, <E>}; {x, y} = <L>; {f[1], {x, y}} = {<e>, <L>}
 <S> /: f[<S>] = <E>; <S> /: g[a, x_] := <B>; <S> /: f[g[x_]] = <E>; <S> /: a = <E>; TagSet[a, f[a], <E>]; f[g[x_], a] ^= <E>; f[Plus, b] ^= <E>; g[a] ^:= <B>; g[f[x_]] ^:= <B>
 SetAttributes[<F>, <A>]; SetAttributes[<F>, <A>]; ClearAttributes[<F>, <A>]; Clear[<F>]; Clear[x, y]; Clear[Plus]; Clear[$RecursionLimit]; ClearAll[<F>]; Protect[<F>]; Protect[x]; Unprotect[<F>]
 x =.; f[a] =.; f[x_] =.; g[1] =.; Plus[a, b] =.; TagUnset[a, f[a]]; <S> += <E>; <S> -= <E>; <S> *= <E>; <S> /= <E>; <S>++; <S>--; ++<S>; --<S>; x = {<e>}; AppendTo[x, <e>]; PrependTo[<S>, <e>]
@@ -81,7 +84,7 @@ def split(text):
 
 FORMS = {
     "E": split(EXPRESSIONS), "P": split(PATTERNS), "C": split(CONDITIONS), "L": split(LISTS), "B": split(BODIES),
-    "D": split(LEFT_SIDES), "A": split(ATTRIBUTES), "K": split(CELLS),
+    "D": split(LEFT_SIDES), "A": split(ATTRIBUTES), "K": split(CELLS), "M": split(DEFINITIONS),
 }
 SMALL = {**{k: v.split() for k, v in ATOMS.items()}, **{k: v.split() for k, v in BOTTOM.items()}}
 
@@ -105,7 +108,8 @@ class Draw:
 
     def cell(self):
         while True:
-            text = self.text("K", self.random.choice([2, 3, 3, 4]))
+            kind = self.random.choice("EEEEMMMKKK")
+            text = self.text(kind, self.random.choice([2, 3, 3, 4]))
             try:
                 parse(text.encode())
                 return text
@@ -113,7 +117,7 @@ class Draw:
                 continue
 
     def session(self):
-        cells = [self.cell() for _ in range(self.random.randint(1, 5))]
+        cells = [self.cell() for _ in range(self.random.randint(2, 6))]
         return cells, self.random.choice([30, 60, 100, 200, 300, 300])
 
 
