@@ -5,7 +5,7 @@
 Each session becomes a row that holds by computing with the definition: the value of each cell, its items, the steps, the names read
 in order, whether there was an effect, the deepest depth and the most turns are those that the oracle says. The rows stand in
 files of their own in a copy of the crates, which `rt check` reads; nothing here is changed. It is fast where `rt check` has run in
-crates/wl_eval before. Where an item shows a message name, which doesn't compute, the number of the items is compared.
+crates/wl_eval before. Where the text of an item doesn't compute, the number of the items is compared.
 """
 import pathlib
 import re
@@ -28,14 +28,14 @@ use Rattle.wl_eval.specs.Cells.{cells, briefs}
 '''
 
 
-def shows_message_name(item):
-    """Whether an item shows a `s::t`, but for the name of its own message."""
-    return "::" in item.split(": ", 1)[-1] and not item.startswith("General::stop: ")
+def is_shut(item):
+    """Whether an item shows a string in its quotes, or a `s::t` that isn't its own message's: their texts don't compute."""
+    return '"' in item or "::" in item.split(": ", 1)[-1] and not item.startswith("General::stop: ")
 
 
 def row(n, cells, steps):
     shown = "".join("-- %s\n" % cell for cell in cells)
-    whole = not any(shows_message_name(item) for gave in run(cells, steps)[1] for item in gave.items)
+    whole = not any(is_shut(item) for gave in run(cells, steps)[1] for item in gave.items)
     return "%srow_%d : %s\nunfolding cells\nrow_%d = refl\n\n" % (shown, n, equation(cells, steps, whole), n)
 
 

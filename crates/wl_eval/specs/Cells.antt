@@ -4,7 +4,7 @@ use Rattle.std.specs.Fmt.{digits}
 use Rattle.wl_expr.specs.Tree.{Tree}
 use Rattle.wl_expr.specs.Same.{first_names}
 use Rattle.wl_expr.specs.Words.{Name, Bytes, aborted_symbol}
-use Rattle.wl_eval.specs.State.{State, End, Value, Thrown, Aborted, BudgetEnded, Broke, Continued}
+use Rattle.wl_eval.specs.State.{State, End, Value, Thrown}
 use Rattle.wl_eval.specs.Prog.{◌>>=◌, ended, now, end_of, entry_of, tick, ticks, doing, asking, sized, or_else, attributes_of, is_protected}
 use Rattle.wl_eval.specs.Effects.{acted}
 use Rattle.wl_eval.specs.Eval.{Eval, Go, Turns, turns_at, interp}
