@@ -20,10 +20,10 @@ from sessions import drawn
 ROWS_A_FILE = 100
 HEAD = '''-- Rows that the oracle gives.
 use Rattle.std.specs.Prelude.{◌≡◌, true, false, [], ◌∷◌, refl, codes, pos, negsuc}
-use Rattle.wl_expr.specs.Tree.{num, text, symbol}
-use Rattle.wl_expr.specs.Words.{form, applied, natural, whole}
+use Rattle.wl_expr.specs.Tree.{num}
+use Rattle.wl_expr.specs.Words.{applied, natural, whole}
 use Rattle.wl_rules.specs.Start.{words}
-use Rattle.wl_eval.specs.Cells.{cells, briefs}
+use Rattle.wl_eval.specs.Cells.{cells, briefs, name, string, call}
 
 '''
 
