@@ -69,7 +69,7 @@ abbrev pub changing : (AttributeSet → List Attribute → AttributeSet) → Opt
 changing f (Some xs) (Some ks) = change_each (λ a. f a ks) xs
 changing f _ _ = unchanged
 
--- `SetAttributes[s, a]`, `ClearAttributes[s, a]`, each a name or a list
+-- `SetAttributes[s, a]`, `ClearAttributes[s, a]`, for one or more symbols and attributes
 abbrev pub set_attributes_row : List Tree → Prog (Option Tree)
 set_attributes_row (s ∷ a ∷ []) = changing with_all (one_or_more s) (attributes_in (one_or_more a))
 set_attributes_row es = unchanged
