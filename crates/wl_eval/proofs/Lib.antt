@@ -1,0 +1,11 @@
+-- For use from other crates: evaluation by levels, programs made of parts, ends that are caught, what is held for a time, the questions of a row, rows by their elements, sizes.
+pub mod Level
+pub mod Locality
+pub mod Bind
+pub mod Caught
+pub mod Held
+pub mod Drive
+pub mod Equations
+pub mod BaredSize
+-- For this crate's own proofs.
+mod Computed

@@ -1,0 +1,4 @@
+//! The definition of evaluation, and its laws.
+#![tactic(auto)]
+
+pub mod laws;
