@@ -43,13 +43,26 @@ fn numbers(rt: &impl Abort, alloc: Global) -> Result<Expr, Fail> {
     node(rt, alloc, "f", &items)
 }
 
-fn no_part(alloc: Global, index: &Expr, e: &Expr) -> Result<String, Fail> {
+fn told(alloc: Global, notice: &Notice) -> Result<String, Fail> {
+    let Notice::NoPart(index, e) = notice else {
+        return Ok(String::from_str(alloc, "a message")?);
+    };
     let index = full_form(alloc, index)?;
     let e = full_form(alloc, e)?;
     Ok(format!(in alloc; "no {index} of {e}")?)
 }
 
-/// Compares what the row gives in FullForm; `-` says that the expression stays.
+/// The result in FullForm; `-` says that the expression stays.
+fn shown(alloc: Global, applied: &Applied) -> Result<String, Fail> {
+    match applied {
+        Applied::Gives(e) => Ok(full_form(alloc, e)?),
+        Applied::Unchanged => Ok(String::from_str(alloc, "-")?),
+        Applied::Told(notice) => told(alloc, notice),
+        Applied::Notice(_, _) => Ok(String::from_str(alloc, "a result and a message")?),
+    }
+}
+
+/// Compares what the row answers.
 fn gives(
     rt: &impl Abort,
     alloc: Global,
@@ -57,13 +70,9 @@ fn gives(
     args: &[Expr],
     wanted: &str,
 ) -> Result<(), Fail> {
-    let shown = match apply(alloc, name, args)? {
-        Applied::Gives(e) => full_form(alloc, &e)?,
-        Applied::Unchanged => String::from_str(alloc, "-")?,
-        Applied::Told(Notice::NoPart(index, e)) => no_part(alloc, &index, &e)?,
-        _ => String::from_str(alloc, "a message")?,
-    };
-    assert_eq!(rt; shown.as_str(), wanted);
+    let applied = apply(alloc, name, args)?;
+    let answer = shown(alloc, &applied)?;
+    assert_eq!(rt; answer.as_str(), wanted);
     Ok(())
 }
 
@@ -430,8 +439,8 @@ fn part(
         for n in *index {
             numbers.push(whole(alloc, *n)?)?;
         }
-        if index.len() == 1 {
-            args.push(numbers[0].copy()?)?;
+        if let [only] = numbers.as_slice() {
+            args.push(only.copy()?)?;
         } else {
             args.push(list(rt, alloc, numbers.as_slice())?)?;
         }
