@@ -18,7 +18,10 @@ import tempfile
 from fractions import Fraction
 
 sys.dont_write_bytecode = True
-ROOT = pathlib.Path(__file__).resolve().parent.parent.parent
+TOOLS = pathlib.Path(__file__).resolve().parent.parent
+sys.path.insert(0, str(TOOLS))
+import clone
+
 MOST_LEAVES = 60
 ROWS_A_FILE = 250
 CRATES = ["wl_ports", "wl_exact", "wl_expr", "wl_match"]
@@ -166,7 +169,7 @@ def listed(tree, ts):
 def main():
     count = int(sys.argv[1]) if len(sys.argv) > 1 else 1000
     seed = int(sys.argv[2]) if len(sys.argv) > 2 else 1
-    oracle = pathlib.Path(sys.argv[3]).resolve() if len(sys.argv) > 3 else ROOT / "tools" / "oracle"
+    oracle = pathlib.Path(sys.argv[3]).resolve() if len(sys.argv) > 3 else TOOLS / "oracle"
     patterns, tree = load(oracle)
     draw = Draw(tree, seed)
     flags = {name: frozenset(held) for name, held in FLAGS.items()}
@@ -241,10 +244,7 @@ seen (Found e ∷ ls) = given (names_of e) (tests_of e) ∷ seen ls
 def check(tree, patterns, rows):
     copy = pathlib.Path(tempfile.mkdtemp())
     try:
-        lines = (ROOT / "crates.txt").read_text().splitlines(keepends=True)
-        (copy / "crates.txt").write_text("".join(line for line in lines if line.split(":")[0] in CRATES))
-        for name in CRATES:
-            shutil.copytree(ROOT / "crates" / name, copy / "crates" / name)
+        clone.copied(copy, CRATES, checked=True)
         proofs = copy / "crates" / "wl_match" / "proofs"
         header = HEADER % tuple(flag_text(flag) for flag in ("Flat", "Orderless", "OneIdentity"))
         lines = []

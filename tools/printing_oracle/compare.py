@@ -8,14 +8,14 @@ read as; `rt try` runs it, unproved. What is read back is compared for the trees
 """
 import pathlib
 import random
-import shutil
-import subprocess
 import sys
-import tempfile
 
 sys.dont_write_bytecode = True
 HERE = pathlib.Path(__file__).resolve().parent
-ROOT = HERE.parent.parent
+sys.path.insert(0, str(HERE.parent))
+import clone
+
+LIBRARIES = "wl_form wl_syntax wl_expr wl_exact wl_ports"
 BATCH = 500
 
 
@@ -43,38 +43,15 @@ def words(tree, t):
     return [f"n:{t.numerator}/{t.denominator}"]
 
 
-def answers(lines):
-    with tempfile.TemporaryDirectory() as folder:
-        copy = pathlib.Path(folder)
-        shutil.copy(ROOT / "crates.txt", copy)
-        shutil.copytree(ROOT / "crates", copy / "crates", ignore=shutil.ignore_patterns("out"))
-        with open(copy / "crates.txt", "a") as rows:
-            rows.write("drive: wl_form wl_syntax wl_expr wl_exact wl_ports\n")
-        source = copy / "crates" / "drive" / "src"
-        source.mkdir(parents=True)
-        shutil.copy(HERE / "driver.rt.txt", source / "main.rt")
-        got = []
-        for begin in range(0, len(lines), BATCH):
-            got += batch(source.parent, lines[begin : begin + BATCH])
-        return got
-
-
-def batch(crate, lines):
-    run = subprocess.run(["rt", "try"], cwd=crate, input="\n".join(lines) + "\n", capture_output=True, text=True)
-    got = run.stdout.split("\n")[: 4 * len(lines)]
-    if len(got) < 4 * len(lines):
-        sys.exit(run.stdout[-2000:] + run.stderr[-2000:])
-    return [tuple(got[4 * i : 4 * i + 4]) for i in range(len(lines))]
-
-
 def main():
     count = int(sys.argv[1]) if len(sys.argv) > 1 else 10000
     seed = int(sys.argv[2]) if len(sys.argv) > 2 else 7
-    oracle = pathlib.Path(sys.argv[3]).resolve() if len(sys.argv) > 3 else ROOT / "tools" / "oracle"
+    oracle = pathlib.Path(sys.argv[3]).resolve() if len(sys.argv) > 3 else HERE.parent / "oracle"
     printing, tree, names = load(oracle)
     r = random.Random(seed)
     trees = [names["random_tree"](r, r.choice([1, 2, 3, 4])) for _ in range(count)]
-    got = answers([" ".join(words(tree, t)) for t in trees])
+    lines = [" ".join(words(tree, t)) for t in trees]
+    got = clone.answers((HERE / "driver.rt.txt").read_text(), LIBRARIES, lines, 4, BATCH)
     wrong, clean = 0, 0
     for t, (text, full, boxed, read) in zip(trees, got):
         wanted = (printing.input_form(t), printing.full_form(t), printing.full_form(printing.boxes(t)))

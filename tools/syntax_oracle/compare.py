@@ -8,14 +8,14 @@ A copy of the repository gets a program that prints each line's expression in fu
 import collections
 import pathlib
 import random
-import shutil
-import subprocess
 import sys
-import tempfile
 
 sys.dont_write_bytecode = True
 HERE = pathlib.Path(__file__).resolve().parent
-ROOT = HERE.parent.parent
+sys.path.insert(0, str(HERE.parent))
+import clone
+
+LIBRARIES = "wl_syntax wl_expr wl_scan wl_exact"
 
 
 def load():
@@ -71,32 +71,13 @@ def cells(names, count, seed):
     return made
 
 
-def answers(lines):
-    with tempfile.TemporaryDirectory() as folder:
-        copy = pathlib.Path(folder)
-        shutil.copy(ROOT / "crates.txt", copy)
-        shutil.copytree(ROOT / "crates", copy / "crates", ignore=shutil.ignore_patterns("out"))
-        with open(copy / "crates.txt", "a") as rows:
-            rows.write("drive: wl_syntax wl_expr wl_scan wl_exact\n")
-        source = copy / "crates" / "drive" / "src"
-        source.mkdir(parents=True)
-        shutil.copy(HERE / "driver.rt.txt", source / "main.rt")
-        (copy / "cells.txt").write_text("\n".join(lines) + "\n")
-        with open(copy / "cells.txt") as given:
-            run = subprocess.run(["rt", "try"], cwd=source.parent, stdin=given, capture_output=True, text=True)
-        got = run.stdout.split("\n")[: len(lines)]
-        if len(got) < len(lines):
-            sys.exit(run.stdout[-2000:] + run.stderr[-2000:])
-        return got
-
-
 def main():
     count = int(sys.argv[1]) if len(sys.argv) > 1 else 12000
     seed = int(sys.argv[2]) if len(sys.argv) > 2 else 7
     syntax, names = load()
     lines = cells(names, count, seed)
     wanted = [expected(syntax, line) for line in lines]
-    got = answers(lines)
+    got = clone.answers((HERE / "driver.rt.txt").read_text(), LIBRARIES, lines)
     kinds = collections.Counter(w.split()[0] if w.split()[0] in ("Unclosed", "Unexpected", "Scan", "TooDeep") else "tree" for w in wanted)
     wrong = [(c, w, g) for c, w, g in zip(lines, wanted, got) if w != g]
     for cell, want, answer in wrong[:20]:

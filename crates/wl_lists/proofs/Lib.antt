@@ -4,6 +4,8 @@ mod Chunks
 mod FirstTimes
 mod Heavy
 mod Makings
+pub mod Once
+mod Walks
 pub mod Rows
 pub mod Spanning
 mod Splits

@@ -2,9 +2,11 @@
 use Rattle.std.proofs.Common.{◌≡◌, ◌<◌, ◌+◌, ℕ, zero, suc, ◌-◌, List, [], ◌∷◌, ◌++◌, length, get_or, drop, map, append_assoc, sym, ap, ◌∙◌, subst, arith}
 use Rattle.std.proofs.lemmas.List.{map-append}
 use Rattle.std.proofs.lemmas.List.Elements.{All-push}
+use Rattle.wl_expr.proofs.Sizes.{weight_of-append}
 use Rattle.wl_expr.specs.Passed.{IsFrom}
+use Rattle.wl_expr.specs.Size.{weight_of}
 use Rattle.wl_expr.specs.Stamped.{Stamped, plain}
-use Rattle.wl_expr.specs.Tree.{Tree, IsWithinLimits, AreSmall, from_list}
+use Rattle.wl_expr.specs.Tree.{Tree, IsWithinLimits, AreSmall, from_list, weight}
 use Rattle.wl_lists.specs.Answers.{AllFrom, trees}
 use Rattle.wl_lists.specs.Tabulated.{tabulated}
 use Rattle.wl_lists.proofs.Splits.{next_of}
@@ -69,3 +71,23 @@ pub value_large : {X : Type 0} (g : X → Tree) (xs : List X) (before : List Sta
     → ¬ IsWithinLimits (g x) → ¬ AreSmall (from_list (map g xs))
 value_large g xs before i x v l p n =
     large_among (map g xs) (trees before) (g x) (map g (drop (i + 1) xs)) (v ∙ ap (λ (us : List Tree). trees before ++ us) (mapped_next g xs i x l p)) n
+
+-- ---- by their weight
+
+pub heavy_among : (all before : List Tree) (t : Tree) (behind : List Tree) → all ≡ before ++ t ∷ behind → 4000000 < weight_of before + weight t → ¬ AreSmall (from_list all)
+heavy_among all before t behind e w s =
+    let u = weight_of-append before (t ∷ behind) in
+    let small : AreSmall (from_list (before ++ t ∷ behind)) = subst (λ ts. AreSmall (from_list ts)) e s in
+    absurd (omega (arith, w, u, small.light))
+
+pub next_heavy : (g : Tree → Tree) (xs before : List Stamped) (i v w : ℕ) (x e : Stamped) → map g (trees xs) ≡ trees before ++ map g (trees (drop i xs)) → i < length xs → x ≡ get_or xs i x
+    → plain e ≡ g (plain x) → v ≡ weight_of (trees before) → w ≡ weight (plain e) → 4000000 < v + w → ¬ AreSmall (from_list (map g (trees xs)))
+next_heavy g xs before i v w x e m l p q a b h =
+    let heavier : w ≡ weight (g (plain x)) = b ∙ ap weight q in
+    heavy_among (map g (trees xs)) (trees before) (g (plain x)) (map g (trees (drop (i + 1) xs))) (m ∙ ap (λ (us : List Stamped). trees before ++ map g (trees us)) (next_of xs i x l p)) (omega (arith, h, a, heavier))
+
+pub next_weighed : (before after : List Stamped) (v w : ℕ) (e : Stamped) → after ≡ before ++ e ∷ [] → v ≡ weight_of (trees before) → w ≡ weight (plain e) → v + w ≡ weight_of (trees after)
+next_weighed before after v w e a p q =
+    let t : trees after ≡ trees before ++ plain e ∷ [] = ap trees a ∙ map-append plain before (e ∷ []) in
+    let s : weight_of (trees after) ≡ weight_of (trees before) + weight_of (plain e ∷ []) = ap weight_of t ∙ weight_of-append (trees before) (plain e ∷ []) in
+    omega (arith, s, p, q)

@@ -1,14 +1,25 @@
 -- Rows of a node, with what was seen of it.
-use Rattle.std.proofs.Common.{◌≡◌, ◌≤◌, ◌-◌, List, [], ◌∷◌, length, reverse, take, Some, sym, ap, ◌∙◌, arith}
+use Rattle.std.proofs.Common.{◌≡◌, ◌≤◌, ◌-◌, List, [], ◌∷◌, length, reverse, take, Option, Some, None, sym, ap, ◌∙◌, arith}
 use Rattle.indexmap.proofs.ReorderLemmas.{map-reverse}
 use Rattle.std.proofs.lemmas.List.{length-map, take-map}
 use Rattle.wl_expr.specs.Applied.{Applied, gives}
 use Rattle.wl_expr.specs.Stamped.{Stamped, plain}
-use Rattle.wl_expr.specs.Tree.{Tree}
+use Rattle.wl_expr.specs.Tree.{Tree, num, text, symbol, node, from_list_to_list}
 use Rattle.wl_expr.specs.Words.{applied}
 use Rattle.wl_lists.specs.Answers.{trees}
 use Rattle.wl_lists.specs.Elements.{most_of}
 use Rattle.wl_lists.specs.Nodes.{node_of, by_node, of_node, of_node_and}
+
+-- a node, from what is seen of it
+abbrev rebuilt : Tree → Option (Tree × List Tree) → Tree
+rebuilt t None = t
+rebuilt t (Some p) = applied p.0 p.1
+
+pub seen_node : (e h : Tree) (ts : List Tree) → Some (h, ts) ≡ node_of e → e ≡ applied h ts
+seen_node (num n) h ts q = cc
+seen_node (text s) h ts q = cc
+seen_node (symbol x) h ts q = cc
+seen_node (node g us) h ts q = ap (node g) (sym (from_list_to_list us)) ∙ ap (rebuilt (node g us)) (sym q)
 
 pub node_row : (f : Tree → List Tree → Applied) (xs : List Stamped) (e : Stamped) (h : Tree) (ts : List Tree) → xs ≡ e ∷ [] → Some (h, ts) ≡ node_of (plain e) → of_node f (trees xs) ≡ f h ts
 node_row f xs e h ts x q = ap (λ ys. of_node f (trees ys)) x ∙ ap (by_node f) (sym q)

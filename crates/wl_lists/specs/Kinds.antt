@@ -4,13 +4,14 @@ use Rattle.wl_lists.specs.Elements.{head_row, length_row, depth_row, order_row, 
 use Rattle.wl_lists.specs.Flattening.{flatten_row}
 use Rattle.wl_lists.specs.Functions.{total_row, apply_row, map_apply_row, map_row, evaluate_row, release_hold_row, identity_row}
 use Rattle.wl_lists.specs.Joining.{join_row, sort_row, union_row, delete_duplicates_row}
+use Rattle.wl_lists.specs.Parts.{part_row}
 use Rattle.wl_lists.specs.Partitions.{transpose_row, partition_row}
 use Rattle.wl_lists.specs.Ranges.{range_row}
 use Rattle.wl_lists.specs.Segments.{take_row, drop_row}
 use Rattle.wl_lists.specs.Strings.{string_join_row, string_length_row, characters_row, to_string_row, make_boxes_row}
 use Rattle.wl_lists.specs.Table.{Row}
 use Rattle.wl_lists.specs.declared.kind.Kind as kind
-use Rattle.wl_lists.specs.declared.kind.Kind.TheVariants.{Head, Length, Depth, Order, OrderedQ, First, Last, Rest, Most, Append, Prepend, Join, Reverse, Sort, Union, DeleteDuplicates, Take, Drop, Flatten, Range, Total, Transpose, Partition, Apply, MapApply, Map, Array, StringJoin, StringLength, Characters, ToString, MakeBoxes, Evaluate, ReleaseHold, Identity}
+use Rattle.wl_lists.specs.declared.kind.Kind.TheVariants.{Head, Length, Depth, Order, OrderedQ, First, Last, Rest, Most, Append, Prepend, Join, Reverse, Sort, Union, DeleteDuplicates, Part, Take, Drop, Flatten, Range, Total, Transpose, Partition, Apply, MapApply, Map, Array, StringJoin, StringLength, Characters, ToString, MakeBoxes, Evaluate, ReleaseHold, Identity}
 
 abbrev pub row_by : kind.Kind → Row
 row_by Head = head_row
@@ -29,6 +30,7 @@ row_by Reverse = reverse_row
 row_by Sort = sort_row
 row_by Union = union_row
 row_by DeleteDuplicates = delete_duplicates_row
+row_by Part = part_row
 row_by Take = take_row
 row_by Drop = drop_row
 row_by Flatten = flatten_row

@@ -8,6 +8,7 @@ pub mod Arrays
 pub mod Flattening
 pub mod Partitions
 pub mod Ranges
+pub mod Parts
 pub mod Joining
 pub mod Functions
 pub mod Strings
@@ -19,3 +20,4 @@ pub mod Kinds
 -- What serves the proofs.
 pub mod Alike
 pub mod RangesInside
+pub mod PartsInside

@@ -8,6 +8,7 @@ use Rattle.wl_lists.specs.Elements.{head_row, length_row, depth_row, order_row, 
 use Rattle.wl_lists.specs.Flattening.{flatten_row}
 use Rattle.wl_lists.specs.Functions.{total_row, apply_row, map_apply_row, map_row, evaluate_row, release_hold_row, identity_row}
 use Rattle.wl_lists.specs.Joining.{join_row, sort_row, union_row, delete_duplicates_row}
+use Rattle.wl_lists.specs.Parts.{part_row}
 use Rattle.wl_lists.specs.Partitions.{transpose_row, partition_row}
 use Rattle.wl_lists.specs.Ranges.{range_row}
 use Rattle.wl_lists.specs.Segments.{take_row, drop_row}
@@ -22,11 +23,11 @@ rows =
     ∷ (codes "OrderedQ", ordered_row) ∷ (codes "First", first_row) ∷ (codes "Last", last_row) ∷ (codes "Rest", rest_row)
     ∷ (codes "Most", most_row) ∷ (codes "Append", append_row) ∷ (codes "Prepend", prepend_row) ∷ (codes "Join", join_row)
     ∷ (codes "Reverse", reverse_row) ∷ (codes "Sort", sort_row) ∷ (codes "Union", union_row) ∷ (codes "DeleteDuplicates", delete_duplicates_row)
-    ∷ (codes "Take", take_row) ∷ (codes "Drop", drop_row) ∷ (codes "Flatten", flatten_row) ∷ (codes "Range", range_row)
-    ∷ (codes "Total", total_row) ∷ (codes "Transpose", transpose_row) ∷ (codes "Partition", partition_row) ∷ (codes "Apply", apply_row)
-    ∷ (codes "MapApply", map_apply_row) ∷ (codes "Map", map_row) ∷ (codes "Array", array_row) ∷ (codes "StringJoin", string_join_row)
-    ∷ (codes "StringLength", string_length_row) ∷ (codes "Characters", characters_row) ∷ (codes "ToString", to_string_row) ∷ (codes "MakeBoxes", make_boxes_row)
-    ∷ (codes "Evaluate", evaluate_row) ∷ (codes "ReleaseHold", release_hold_row) ∷ (codes "Identity", identity_row) ∷ []
+    ∷ (codes "Part", part_row) ∷ (codes "Take", take_row) ∷ (codes "Drop", drop_row) ∷ (codes "Flatten", flatten_row)
+    ∷ (codes "Range", range_row) ∷ (codes "Total", total_row) ∷ (codes "Transpose", transpose_row) ∷ (codes "Partition", partition_row)
+    ∷ (codes "Apply", apply_row) ∷ (codes "MapApply", map_apply_row) ∷ (codes "Map", map_row) ∷ (codes "Array", array_row)
+    ∷ (codes "StringJoin", string_join_row) ∷ (codes "StringLength", string_length_row) ∷ (codes "Characters", characters_row) ∷ (codes "ToString", to_string_row)
+    ∷ (codes "MakeBoxes", make_boxes_row) ∷ (codes "Evaluate", evaluate_row) ∷ (codes "ReleaseHold", release_hold_row) ∷ (codes "Identity", identity_row) ∷ []
 
 abbrev pub row_in : Name → List (Name × Row) → Option Row
 row_in x [] = None

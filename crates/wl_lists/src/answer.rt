@@ -4,7 +4,7 @@
 ghost use Rattle.std.specs.Prelude.{◌≡◌, ◌≢◌, ◌-◌, ◌^◌, negsuc, Err, IfOk, List, None};
 ghost use Rattle.wl_exact.specs.Fraction.{of_int};
 ghost use Rattle.wl_lists.specs.Answers.{AllFrom, IsAnswer, IsMade, IsPassed, NoticeIsFrom, overflowed, trees};
-ghost use Rattle.wl_expr.specs.Applied.{gives, noticed, plain_notice, unchanged};
+ghost use Rattle.wl_expr.specs.Applied.{gives, no_part, noticed, plain_notice, told, unchanged};
 ghost use Rattle.wl_expr.specs.Passed.{IsFrom};
 ghost use Rattle.wl_expr.specs.Stamped.{Stamped, plain, symbol as stamped_symbol};
 ghost use Rattle.wl_expr.specs.Tree.{AreSmall, Tree, from_list, num, symbol as tree_symbol};
@@ -173,6 +173,14 @@ pub(crate) fn give_noticed(notice: Notice, e: Expr) -> Result<Applied, ExprFault
 {
     let _weight = e.weight();
     Ok(Applied::Notice(notice, e))
+}
+
+/// Tells that the index has no part in the expression, which stays.
+pub(crate) fn tell_no_part(index: Expr, e: Expr) -> Result<Applied, ExprFault>
+    ensures answer { IsAnswer (told (no_part (plain index) (plain e))) result }
+    ensures passed { (ms : List Stamped) → IsFrom ms index → IsFrom ms e → IsPassed ms result }
+{
+    Ok(Applied::Told(Notice::NoPart(index, e)))
 }
 
 /// `Overflow[]`, with its message.

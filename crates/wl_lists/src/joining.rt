@@ -41,7 +41,7 @@ pub(crate) fn sort_row(alloc: Global, args: &[Expr]) -> Result<Applied, ExprFaul
 }
 
 /// Copies of the first of each, in order.
-fn distinct(alloc: Global, elements: &[Expr]) -> Result<Vec<Expr>, Memory>
+pub(crate) fn distinct(alloc: Global, elements: &[Expr]) -> Result<Vec<Expr>, Memory>
     ensures value { IfOk result (λ v. trees v.items ≡ first_of_each [] (trees elements.now)) }
     ensures passed { (ms : List Stamped) → AllFrom ms elements.now → IfOk result (λ v. AllFrom ms v.items) }
 {

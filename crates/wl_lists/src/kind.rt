@@ -17,6 +17,7 @@ use crate::flattening::flatten_row;
 use crate::functions::{evaluate_row, identity_row, release_hold_row, total_row};
 use crate::joining::{delete_duplicates_row, join_row, sort_row, union_row};
 use crate::partitions::partition_row;
+use crate::parts::part_row;
 use crate::ranges::range_row;
 use crate::segments::{drop_row, take_row};
 use crate::strings::{
@@ -45,6 +46,7 @@ pub enum Kind {
     Sort,
     Union,
     DeleteDuplicates,
+    Part,
     Take,
     Drop,
     Flatten,
@@ -88,6 +90,7 @@ impl Kind {
             "Sort" => Some(Kind::Sort),
             "Union" => Some(Kind::Union),
             "DeleteDuplicates" => Some(Kind::DeleteDuplicates),
+            "Part" => Some(Kind::Part),
             "Take" => Some(Kind::Take),
             "Drop" => Some(Kind::Drop),
             "Flatten" => Some(Kind::Flatten),
@@ -144,6 +147,7 @@ fn row(kind: Kind, alloc: Global, args: &[Expr]) -> Result<Applied, ExprFault>
         Kind::Sort => sort_row(alloc, args),
         Kind::Union => union_row(alloc, args),
         Kind::DeleteDuplicates => delete_duplicates_row(alloc, args),
+        Kind::Part => part_row(alloc, args),
         Kind::Take => take_row(alloc, args),
         Kind::Drop => drop_row(alloc, args),
         Kind::Flatten => flatten_row(alloc, args),

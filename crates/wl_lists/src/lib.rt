@@ -12,6 +12,7 @@ mod joining;
 mod kind;
 pub mod laws;
 mod partitions;
+mod parts;
 mod ranges;
 mod segments;
 mod strings;

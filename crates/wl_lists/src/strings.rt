@@ -113,6 +113,7 @@ pub(crate) fn make_boxes_row(alloc: Global, args: &[Expr]) -> Result<Applied, Ex
     }
 }
 
+#[tactic(auto, using(std::proofs::lemmas::Str::chars_from_encodes))]
 fn count_of_characters(s: &str) -> usize
     ensures { result ≡ length (chars s.now) }
 {
@@ -143,6 +144,7 @@ fn character_text(alloc: Global, c: char) -> Result<Expr, ExprFault>
     text(alloc, one.as_str())
 }
 
+#[tactic(auto, using(std::proofs::lemmas::Str::chars_from_encodes))]
 fn characters(alloc: Global, s: &str) -> Result<Vec<char>, Memory>
     ensures { IfOk result (λ v. v.items ≡ chars s.now) }
 {

@@ -4,7 +4,7 @@ use std::alloc::Global;
 use std::process::Abort;
 use std::test::Fail;
 use wl_exact::Num;
-use wl_expr::{Applied, Expr};
+use wl_expr::{Applied, Expr, Notice};
 use wl_form::full_form;
 use wl_ports::is_name;
 
@@ -43,7 +43,26 @@ fn numbers(rt: &impl Abort, alloc: Global) -> Result<Expr, Fail> {
     node(rt, alloc, "f", &items)
 }
 
-/// Compares what the row gives in FullForm; `-` says that the expression stays.
+fn told(alloc: Global, notice: &Notice) -> Result<String, Fail> {
+    let Notice::NoPart(index, e) = notice else {
+        return Ok(String::from_str(alloc, "a message")?);
+    };
+    let index = full_form(alloc, index)?;
+    let e = full_form(alloc, e)?;
+    Ok(format!(in alloc; "no {index} of {e}")?)
+}
+
+/// The result in FullForm; `-` says that the expression stays.
+fn shown(alloc: Global, applied: &Applied) -> Result<String, Fail> {
+    match applied {
+        Applied::Gives(e) => Ok(full_form(alloc, e)?),
+        Applied::Unchanged => Ok(String::from_str(alloc, "-")?),
+        Applied::Told(notice) => told(alloc, notice),
+        Applied::Notice(_, _) => Ok(String::from_str(alloc, "a result and a message")?),
+    }
+}
+
+/// Compares what the row answers.
 fn gives(
     rt: &impl Abort,
     alloc: Global,
@@ -51,12 +70,9 @@ fn gives(
     args: &[Expr],
     wanted: &str,
 ) -> Result<(), Fail> {
-    let shown = match apply(alloc, name, args)? {
-        Applied::Gives(e) => full_form(alloc, &e)?,
-        Applied::Unchanged => String::from_str(alloc, "-")?,
-        _ => String::from_str(alloc, "a message")?,
-    };
-    assert_eq!(rt; shown.as_str(), wanted);
+    let applied = apply(alloc, name, args)?;
+    let answer = shown(alloc, &applied)?;
+    assert_eq!(rt; answer.as_str(), wanted);
     Ok(())
 }
 
@@ -405,5 +421,60 @@ fn counts_up_and_down(rt: HostRuntime) -> Result<(), Fail> {
         "List[170141183460469231731687303715884105727]",
     )?;
     gives(&rt, alloc, "Range", &[one, two, none], "-")?;
+    Ok(())
+}
+
+/// `Part` of the expression with these indices; one that is written as a list of several is a list.
+fn part(
+    rt: &impl Abort,
+    alloc: Global,
+    e: &Expr,
+    indices: &[&[i128]],
+    wanted: &str,
+) -> Result<(), Fail> {
+    let mut args = Vec::new(alloc);
+    args.push(e.copy()?)?;
+    for index in indices {
+        let mut numbers = Vec::new(alloc);
+        for n in *index {
+            numbers.push(whole(alloc, *n)?)?;
+        }
+        if let [only] = numbers.as_slice() {
+            args.push(only.copy()?)?;
+        } else {
+            args.push(list(rt, alloc, numbers.as_slice())?)?;
+        }
+    }
+    gives(rt, alloc, "Part", args.as_slice(), wanted)
+}
+
+#[test]
+fn looks_up_parts(rt: HostRuntime) -> Result<(), Fail> {
+    let alloc = rt.alloc();
+    let f = numbers(&rt, alloc)?;
+    let both = list(&rt, alloc, &[f.copy()?, letters(&rt, alloc)?])?;
+    part(&rt, alloc, &f, &[&[2]], "2")?;
+    part(&rt, alloc, &f, &[&[-3]], "1")?;
+    part(&rt, alloc, &f, &[&[0]], "f")?;
+    part(&rt, alloc, &f, &[&[3, -1, 1]], "f[3, 3, 1]")?;
+    part(&rt, alloc, &both, &[&[2], &[4, 1]], "List[a, c]")?;
+    part(&rt, alloc, &both, &[&[2, 1, -1], &[-2]], "List[b, 2, b]")?;
+    part(&rt, alloc, &both, &[&[], &[9]], "List[]")?;
+    Ok(())
+}
+
+#[test]
+fn tells_missing_parts(rt: HostRuntime) -> Result<(), Fail> {
+    let alloc = rt.alloc();
+    let f = numbers(&rt, alloc)?;
+    let both = list(&rt, alloc, &[f.copy()?, letters(&rt, alloc)?])?;
+    part(&rt, alloc, &f, &[&[4]], "no 4 of f[1, 2, 3]")?;
+    part(&rt, alloc, &f, &[&[1, -5, 9]], "no -5 of f[1, 2, 3]")?;
+    part(&rt, alloc, &both, &[&[1, 3], &[4]], "no 4 of f[1, 2, 3]")?;
+    part(&rt, alloc, &f, &[&[1], &[0]], "no 0 of 1")?;
+    part(&rt, alloc, &f, &[&[1], &[]], "-")?;
+    part(&rt, alloc, &whole(alloc, 5)?, &[&[1]], "-")?;
+    part(&rt, alloc, &f, &[], "-")?;
+    gives(&rt, alloc, "Part", &[f, number(alloc, 1, 2)?], "-")?;
     Ok(())
 }
