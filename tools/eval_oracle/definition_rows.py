@@ -34,17 +34,17 @@ def written(t):
             return "num (record { num = %s; den = %d })" % (integer(t.numerator), t.denominator)
         return "natural %d" % t.numerator if t >= 0 else "whole (%s)" % integer(t.numerator)
     if type(t) is Str:
-        return "text (codes %s)" % quoted(t.text)
+        return "string %s" % quoted(t.text)
     if type(t) is Sym:
-        return "symbol (codes %s)" % quoted(t.name)
-    parts = listed(inner(a) for a in t.args)
+        return "name %s" % quoted(t.name)
+    parts = trees(t.args)
     if type(t.head) is Sym:
-        return "form (codes %s) %s" % (quoted(t.head.name), "(%s)" % parts if t.args else parts)
-    return "applied %s %s" % (inner(t.head), "(%s)" % parts if t.args else parts)
+        return "call %s %s" % (quoted(t.head.name), parts)
+    return "applied (%s) %s" % (written(t.head), parts)
 
 
-def inner(t):
-    return "(%s)" % written(t)
+def trees(ts):
+    return "(%s)" % listed(written(t) for t in ts) if ts else "[]"
 
 
 # ---- sessions
@@ -60,7 +60,7 @@ class Gave:
 
 def run(cells, steps):
     """The expressions of the cells, and what each gives, where each cell has so many steps."""
-    kernel, trees, gave = Kernel(steps), [], []
+    kernel, inputs, gave = Kernel(steps), [], []
     for cell in cells:
         tree = parse(cell.encode())
         kernel.refill(steps)
@@ -70,9 +70,9 @@ def run(cells, steps):
         value = end[1] if end[0] == "value" else kernel.uncaught(end[1], end[2]) if end[0] == "thrown" else ABORTED
         record.names, record.effect = done
         gave.append(Gave(value, list(kernel.shown), steps - kernel.steps_left, record))
-        trees.append(tree)
+        inputs.append(tree)
         kernel.put_line(tree, value)
-    return trees, gave
+    return inputs, gave
 
 
 # ---- rows
@@ -88,8 +88,8 @@ def outcome(gave, with_items):
 
 def equation(cells, steps=1000, with_items=True):
     """That the definition gives for these cells what the oracle does; without the items their number is compared."""
-    trees, gave = run(cells, steps)
-    gives = "cells %d (%s)" % (steps, listed(inner(t) for t in trees))
+    inputs, gave = run(cells, steps)
+    gives = "cells %d %s" % (steps, trees(inputs))
     if not with_items:
         gives = "briefs (%s)" % gives
     return "%s\n    ≡ %s[]" % (gives, "".join("%s\n    ∷ " % outcome(g, with_items) for g in gave))

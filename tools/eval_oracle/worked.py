@@ -71,10 +71,10 @@ SESSIONS = [
 
 STATEMENTS = '''-- Sessions, each from a new kernel, and what each of their cells gives. The values are those of an independent writing of the language; tools/eval_oracle/worked.py writes this file.
 use Rattle.std.specs.Prelude.{◌≡◌, true, false, [], ◌∷◌, codes, pos, negsuc}
-use Rattle.wl_expr.specs.Tree.{num, text, symbol}
-use Rattle.wl_expr.specs.Words.{form, applied, natural, whole}
+use Rattle.wl_expr.specs.Tree.{num}
+use Rattle.wl_expr.specs.Words.{applied, natural, whole}
 use Rattle.wl_rules.specs.Start.{words}
-use Rattle.wl_eval.specs.Cells.{cells, briefs}
+use Rattle.wl_eval.specs.Cells.{cells, briefs, name, string, call}
 
 '''
 PROOFS = '''-- The worked cells, computed. tools/eval_oracle/worked.py writes this file.

@@ -20,6 +20,3 @@ pub use extremes::Extreme;
 pub use kind::{Kind, apply};
 pub use numbers::Measure;
 pub use questions::Question;
-
-#[cfg(test)]
-mod tests;

@@ -8,8 +8,6 @@ mod limits;
 mod special;
 mod tags;
 mod targets;
-#[cfg(test)]
-mod tests;
 
 pub use kinds::{Core, Target};
 pub use left_side::core;

@@ -15,8 +15,6 @@ mod place;
 mod rows;
 mod span;
 mod step;
-#[cfg(test)]
-mod tests;
 
 pub use cursor::Cursor;
 pub use place::{Ask, Last};

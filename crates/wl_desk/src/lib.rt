@@ -6,8 +6,6 @@ mod item;
 pub mod laws;
 mod message;
 mod tally;
-#[cfg(test)]
-mod tests;
 mod text;
 
 pub use desk::Desk;

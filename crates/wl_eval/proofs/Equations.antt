@@ -7,7 +7,7 @@ use Rattle.wl_match.specs.Pattern.{pattern}
 use Rattle.wl_match.specs.Trials.{Trials}
 use Rattle.wl_match.specs.Heads.{heads}
 use Rattle.wl_control.specs.Asks.{pass, eval_catching}
-use Rattle.wl_control.specs.Loops.{loop_from, after_condition, after_part, part}
+use Rattle.wl_control.specs.Loops.{loop_from, after_condition, part}
 use Rattle.wl_eval.specs.Prog.{done, ◌>>=◌, unchanged, result, tick, value_of_built}
 use Rattle.wl_eval.specs.Match.{flags_of, walk, holding, matches_within, guard_within, is_condition, condition_result, is_guarded, guard_by, scope}
 use Rattle.wl_eval.specs.MatchRows.{replace_all, replace_repeated}

@@ -1,4 +1,4 @@
--- The table of built-in rules in the evaluator: which row a name has.
+-- The table of built-in functions: which row a name has.
 use Rattle.std.specs.Prelude.{true, false, List, [], ◌∷◌, Option, Some, None, codes, bytes_eq}
 use Rattle.wl_expr.specs.Tree.{Tree, symbol, node, to_list}
 use Rattle.wl_expr.specs.Words.{Name}
@@ -55,7 +55,7 @@ abbrev pub special_row : Name → Option Row
 special_row x =
     row_in x definition_rows (row_in x entry_rows (row_in x match_rows (row_in x scope_rows (row_in x end_rows (row_in x message_rows (control_row x))))))
 
--- a row of the evaluator, or else one that looks at its arguments alone
+-- a row of its own here, or else one that looks at its elements alone
 abbrev pub row_by : Option Row → Name → List Tree → Prog (Option Tree)
 row_by None x es = pure_row x es
 row_by (Some f) x es = f es
@@ -63,7 +63,7 @@ row_by (Some f) x es = f es
 unfoldable pub row : Name → List Tree → Prog (Option Tree)
 row x es = row_by (special_row x) x es
 
--- the built-in rule of a node, before its size is tested
+-- the row of the head; for another head, what it gives as a function
 abbrev pub built_in_of : Tree → List Tree → Prog (Option Tree)
 built_in_of (symbol x) es = row x es
 built_in_of h es = done (function_applied h es)
@@ -74,7 +74,7 @@ sized_result (Some t) = do
   _ ← sized t
   result t
 
--- each result of a built-in is tested
+-- a result that doesn't fit isn't given
 abbrev pub built_in : Tree → Prog (Option Tree)
 built_in (node h ts) = do
   r ← built_in_of h (to_list ts)

@@ -1,10 +1,11 @@
 -- Cells one after the other from a new kernel, and what each gives; a form of it that computes.
-use Rattle.std.specs.Prelude.{ℕ, Bool, List, [], ◌∷◌, length, Result, Ok, Err}
+use Prim.Native.String.{String}
+use Rattle.std.specs.Prelude.{ℕ, Bool, List, [], ◌∷◌, length, Result, Ok, Err, codes}
 use Rattle.std.specs.Fmt.{digits}
-use Rattle.wl_expr.specs.Tree.{Tree}
+use Rattle.wl_expr.specs.Tree.{Tree, symbol, text}
 use Rattle.wl_expr.specs.Same.{first_names}
-use Rattle.wl_expr.specs.Words.{Name, Bytes, aborted_symbol}
-use Rattle.wl_eval.specs.State.{State, End, Value, Thrown, Aborted, BudgetEnded, Broke, Continued}
+use Rattle.wl_expr.specs.Words.{Name, Bytes, form, aborted_symbol}
+use Rattle.wl_eval.specs.State.{State, End, Value, Thrown}
 use Rattle.wl_eval.specs.Prog.{◌>>=◌, ended, now, end_of, entry_of, tick, ticks, doing, asking, sized, or_else, attributes_of, is_protected}
 use Rattle.wl_eval.specs.Effects.{acted}
 use Rattle.wl_eval.specs.Eval.{Eval, Go, Turns, turns_at, interp}
@@ -75,6 +76,19 @@ cells_from n (t ∷ ts) s =
     record { value = k.value; items = k.state.world.desk.items; steps = r.did.steps; names = first_names [] r.did.names; effect = r.did.effect; depth = r.did.depth; turns = r.did.turns }
     ∷ cells_from n ts (with_line t k.value k.state)
 
+-- from a new kernel
 unfoldable pub cells : ℕ → List Tree → List Gave
 unfolding cells_from
 cells n ts = cells_from n ts (new_state n)
+
+-- ---- short words for trees
+
+abbrev pub name : String → Tree
+name s = symbol (codes s)
+
+abbrev pub string : String → Tree
+string s = text (codes s)
+
+-- `f[t1, t2, ..]`
+abbrev pub call : String → List Tree → Tree
+call f ts = form (codes f) ts

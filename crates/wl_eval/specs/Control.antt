@@ -1,4 +1,4 @@
--- The rows of loops and branches, played: what each question asks of the kernel.
+-- The rows of loops and branches, played: what each question asks of the kernel. Reference pages of `Do` and `Table`; what becomes of an iterator that is Protected, or a limit, is this project's own.
 use Rattle.std.specs.Prelude.{Bool, true, false, ◌&&◌, ◌||◌, not, if◌then◌else◌, List, [], ◌∷◌, Option, Some, None, Result, Ok, Err, bytes_eq, codes}
 use Rattle.wl_expr.specs.Tree.{Tree, symbol}
 use Rattle.wl_expr.specs.Words.{Name, elements, name_of, overflow_form}
@@ -20,7 +20,7 @@ overflow = do
 
 -- ---- the iterator's name
 
--- the name in front of the bounds of an iterator
+-- the name in front of bounds
 abbrev pub name_before : List Tree → Option Name
 name_before [] = None
 name_before (i ∷ bs) = name_of i
@@ -37,7 +37,7 @@ iterated_name es = None
 abbrev pub iterator_name : Name → List Tree → Option Name
 iterator_name x es = if bytes_eq x (codes "Do") || bytes_eq x (codes "Table") then iterated_name es else None
 
--- where it is Protected by now, or is a limit that may not have this value, a message comes and the value is passed over
+-- whether the name gets this value: not if it has become Protected, or is a limit for which it isn't allowed; a message tells so, and the pass goes on
 abbrev pub may_set : Name → Tree → Prog Bool
 may_set x v = do
   p ← is_protected x
@@ -53,7 +53,7 @@ may_set x v = do
     ]
   ]
 
--- the rules of the name are taken out right before the first value that is set
+-- its own rules are set aside when it gets its first value
 abbrev pub taken_once : Name → Option Taken → Prog Taken
 taken_once x None = take_out x
 taken_once x (Some t) = done t
@@ -125,14 +125,14 @@ abbrev pub give_back_taken : Option Taken → Prog (Unit {0})
 give_back_taken None = done tt
 give_back_taken (Some t) = give_back t
 
--- the rules that were taken out are given back however the row ended
+-- what was set aside comes back, whatever the end
 abbrev pub finished : Option Name → Asks → Prog (Option Tree)
 finished x row = do
   s ← played x None row
   _ ← give_back_taken s.taken
   now s.answer
 
--- an iterator's name that is Protected leaves the expression; this is looked at before the bounds
+-- nothing is evaluated where the name is Protected from the start
 abbrev pub iterated : Option Name → Asks → Prog (Option Tree)
 iterated None row = finished None row
 iterated (Some x) row = do

@@ -1,4 +1,4 @@
--- Definitions: Set and its relatives. Tutorials on definitions and on evaluation; which message comes for which left side is this project's own.
+-- Definitions: Set and its relatives. Tutorials on definitions and on evaluation in assignments; which message comes for which left side is this project's own.
 use Rattle.std.specs.Prelude.{negsuc, Bool, true, false, ◌&&◌, ◌||◌, not, nat_eq, List, [], ◌∷◌, length, Option, codes, bytes_eq}
 use Rattle.wl_expr.specs.Tree.{Tree, Trees, num, text, symbol, node, none, more, to_list}
 use Rattle.wl_expr.specs.Same.{same, is_name_among}
@@ -17,7 +17,7 @@ use Rattle.wl_eval.specs.LeftSides.{with_core, moved_condition, is_limit, limit_
 
 -- ---- the left side
 
--- Of a core that is a node the elements are evaluated as in a turn, by the attributes of its head, and sequences are spliced; a head that is a node is treated in the same way, before the elements. The core itself isn't evaluated.
+-- The elements of a core are evaluated, but not the core: held ones stay, sequences are opened. A head that is a node comes first and is treated alike.
 unfoldable pub evaluated_core : Tree → Prog Tree
 evaluated_core (node h ts) = do
   k ← evaluated_core h
@@ -29,7 +29,7 @@ evaluated_core t = done t
 abbrev pub core_of : Tree → Prog Tree
 core_of l = elim (is_held l) [ true ↦ done (core l) | false ↦ evaluated_core (core l) ]
 
--- a left side as it is stored, and its core
+-- a left side as its rule keeps it, and its core
 pub record LeftSide : Type 0 where
   pub left : Tree
   pub core : Tree
@@ -43,7 +43,7 @@ prepared l = do
 
 -- ---- refusals
 
--- the message of a definition for a Protected symbol
+-- why a Protected symbol gets no rule
 abbrev pub write_message : RuleKind → Name → Tree → Prog (Unit {0})
 write_message Own x c = message (codes "Set") (codes "wrsym") (symbol x ∷ [])
 write_message Down x c = message (codes "Set") (codes "write") (symbol x ∷ c ∷ [])
@@ -53,7 +53,7 @@ write_message Sub x c = message (codes "Set") (codes "write") (symbol x ∷ c �
 abbrev pub limset : Name → Tree → Prog (Unit {0})
 limset x v = message x (codes "limset") (symbol x ∷ v ∷ [])
 
--- whether the symbol refuses a rule of this kind, with its message; a limit refuses all but what is allowed
+-- whether the symbol gets no rule of this kind, and the message that says why
 abbrev pub refuses : RuleKind → Name → Tree → Tree → Bool → Prog Bool
 refuses k x c v allowed = do
   p ← is_protected x
@@ -69,13 +69,13 @@ refuses k x c v allowed = do
     ]
   ]
 
--- a core whose leftmost part is a number or text, which the message shows
+-- nothing can be defined for a number or a text that a core begins with
 abbrev pub refused_raw : Tree → Prog Bool
 refused_raw c = do
   _ ← message (codes "Set") (codes "setraw") (leftmost c ∷ [])
   done true
 
--- a rule is defined, unless it is refused; whether it was
+-- the symbol gets the rule, unless that is refused; whether it is
 abbrev pub defined : RuleKind → Name → LeftSide → Tree → Tree → Bool → Prog Bool
 defined k x l body v allowed = do
   r ← refuses k x l.core v allowed
@@ -86,9 +86,9 @@ defined k x l body v allowed = do
       done false
   ]
 
--- ---- `l = v`, `l := v`. Each definition says whether it was refused.
+-- ---- `l = v`, `l := v`: whether it is refused
 
--- a limit may be set by Set alone, where the left side is that symbol itself
+-- of these only `l = v` may set a limit, and only by its plain name
 abbrev pub sets_limit : Bool → Tree → Name → Tree → Bool
 sets_limit immediate left x v = immediate && same left (symbol x) && limit_allows x v
 
@@ -104,7 +104,7 @@ define immediate l v = do
   s ← prepared m.left
   define_target immediate s m.body v (target s.core)
 
--- ---- `l ^= v`, `l ^:= v`: an up rule for each distinct tag in order; whether one or more was refused
+-- ---- `l ^= v`, `l ^:= v`: an up rule for each tag; whether one of them is refused
 
 unfoldable pub define_tags : LeftSide → Tree → Tree → Bool → List Name → Prog Bool
 define_tags l body v refused [] = done refused
@@ -126,7 +126,7 @@ define_up l v = do
 
 -- ---- `g /: l = v`, `g /: l := v`
 
--- the kind of rule of g: an up rule where g is a tag, a down or sub rule where g is the symbol that would get one
+-- the rule that g gets: an up rule as a tag, else the rule that the plain definition would make, if that is one of g
 pub data Tagged : Type 0 where
   of_kind_of : RuleKind → Tagged
   not_found : Tagged
@@ -160,7 +160,7 @@ define_tagged g l v = do
 
 -- ---- Set
 
--- a message text of a symbol; of a Protected one, or of a limit, it is refused as other definitions are
+-- a message text is refused where other definitions of that symbol are
 abbrev pub set_message : Name → Bytes → Bytes → Prog (Unit {0})
 set_message s t x = do
   p ← is_protected s
@@ -183,7 +183,7 @@ set_node h ts v = set_plain (node h ts) v
 abbrev pub has_shape : Trees → Tree → Bool
 has_shape ls v = is_list v && nat_eq (length (to_list ls)) (length (elements v))
 
--- What Set does for l and v. Of a list of left sides each is set to its value, a list among them too; other shapes issue a message with both.
+-- `{l, m} = {v, w}` sets each left side to its value, lists within lists too; a message tells of lists of other shapes.
 unfoldable mutual
   pub set : Tree → Tree → Prog (Unit {0})
   set (num n) v = set_plain (num n) v
@@ -202,13 +202,13 @@ unfoldable mutual
 
 -- ---- the rows
 
--- a delayed definition gives Null, or `$Failed` where it was refused
+-- a delayed definition gives Null, a refused one `$Failed`
 abbrev pub delayed : Prog Bool → Prog (Option Tree)
 delayed p = do
   r ← p
   elim r [ true ↦ result failed_symbol | false ↦ result null_symbol ]
 
--- `Set[l, v]` gives v, refused or not
+-- `Set[l, v]` gives v in any case
 abbrev pub set_row : List Tree → Prog (Option Tree)
 set_row (l ∷ v ∷ []) = do
   _ ← set l v
@@ -232,7 +232,7 @@ abbrev pub up_set_delayed_row : List Tree → Prog (Option Tree)
 up_set_delayed_row (l ∷ v ∷ []) = delayed (define_up l v)
 up_set_delayed_row es = unchanged
 
--- `TagSet[g, l, v]`: v is evaluated before the elements of the core are
+-- `TagSet[g, l, v]`: v is evaluated first, and then the left side
 abbrev pub tag_set_row : List Tree → Prog (Option Tree)
 tag_set_row (symbol g ∷ l ∷ v ∷ []) = do
   u ← value_of v
@@ -245,7 +245,7 @@ abbrev pub tag_set_delayed_row : List Tree → Prog (Option Tree)
 tag_set_delayed_row (symbol g ∷ l ∷ v ∷ []) = delayed (define_tagged g l v)
 tag_set_delayed_row es = unchanged
 
--- the rule that the definition would make is taken away: Null, or `$Failed` where there is none, or with the message of its definition
+-- takes away the rule that the definition would make; `$Failed` if there is none, or if the definition would be refused
 abbrev pub taken_away : RuleKind → Name → LeftSide → Prog (Option Tree)
 taken_away k x l = do
   r ← refuses k x l.core null_symbol false
@@ -289,7 +289,7 @@ tag_unset_row es = unchanged
 
 -- ---- AddTo and its relatives
 
--- x is evaluated. Where its value o is identical to x, all stays. Otherwise `Set[x, new]` is evaluated; `keep` says which of o and that value is the result.
+-- An x that has a value o gets a new one by `Set[x, new]`, which is evaluated; x without a value leaves the expression. The result is the new value, or for `x++` the old one.
 abbrev pub changing : (Tree → Tree → Tree) → (Tree → Tree) → Tree → Prog (Option Tree)
 changing keep new x = do
   o ← value_of x

@@ -1,4 +1,4 @@
--- What each effect does to the world, what it answers, and the names that it reads.
+-- What each effect does to the world, what it answers, and the names that it reads. Reference pages of the functions that have these effects; that numbers stand still at the last one is this project's own.
 use Rattle.std.specs.Prelude.{ℕ, ℤ, pos, negsuc, zero, suc, ◌+◌, ◌-◌, ◌^◌, min, true, false, nat_le, List, [], ◌∷◌, Option, None, option_map, slice_get, length, codes}
 use Rattle.wl_expr.specs.Words.{Name}
 use Rattle.wl_rules.specs.Entries.{PlainRule, Entry, left_side, with_entry, no_rules, cleared, with_attributes, with_rules}
@@ -19,7 +19,7 @@ abbrev pub line_at : ℕ → List Line → Option Line
 line_at zero ls = None
 line_at (suc n) ls = slice_get ls n
 
--- the line n; n below 0 counts back from the present one
+-- the line that is k lines back, where n lines are there
 abbrev pub line_back : ℕ → ℕ → List Line → Option Line
 line_back n k ls = elim (nat_le k n) [ true ↦ line_at (n + 1 - k) ls | false ↦ None ]
 
@@ -46,7 +46,7 @@ acted draw w = let n = min (w.module_number + 1) last_number in (number n, recor
 acted (recall_value n) w = (found (option_map (λ l. l.value) (value_line n w.history)), w)
 acted (recall_input n) w = (found (option_map (λ l. l.input) (input_line n w.history)), w)
 
--- an effect that looks at, takes away or sets an entry reads that name, and a message reads its symbol and `General`
+-- whatever touches an entry reads its name; a message has its text from its symbol or from `General`
 abbrev pub touched : What → List Name
 touched (put_rule x k r) = x ∷ []
 touched (remove_rule x k l) = x ∷ []

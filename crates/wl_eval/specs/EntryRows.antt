@@ -1,4 +1,4 @@
--- Clear, ClearAll, Attributes and their changes, Protect and Unprotect. Reference pages of these.
+-- Clear, ClearAll, Attributes and their changes, Protect and Unprotect. Reference pages of these; what is refused is this project's own.
 use Rattle.std.specs.Prelude.{Bool, true, false, List, [], ◌∷◌, map, Option, Some, None, codes}
 use Rattle.wl_expr.specs.Tree.{Tree, text, symbol}
 use Rattle.wl_expr.specs.Words.{Name, is_list, elements, list_of, names_of, null_symbol}
@@ -38,7 +38,7 @@ clear_all_row es = clear_named true (names_of es)
 
 -- ---- attributes
 
--- `Attributes[s]`: list by name
+-- `Attributes[s]`: their names, sorted
 abbrev pub attributes_row : List Tree → Prog (Option Tree)
 attributes_row (symbol x ∷ []) = do
   e ← entry_of x
@@ -53,7 +53,7 @@ abbrev pub attributes_in : Option (List Name) → Option (List Attribute)
 attributes_in None = None
 attributes_in (Some xs) = attributes_named xs
 
--- a change of the attributes, which counts as one even where they come out equal
+-- Attributes of Protected symbols may be changed too. It is a change even where they come out as they were.
 abbrev pub change_attributes : (AttributeSet → AttributeSet) → Name → Prog (Unit {0})
 change_attributes f x = do
   e ← entry_of x
@@ -69,7 +69,7 @@ abbrev pub changing : (AttributeSet → List Attribute → AttributeSet) → Opt
 changing f (Some xs) (Some ks) = change_each (λ a. f a ks) xs
 changing f _ _ = unchanged
 
--- `SetAttributes[s, a]`, `ClearAttributes[s, a]`, each a name or a list
+-- `SetAttributes[s, a]`, `ClearAttributes[s, a]`, for one or more symbols and attributes
 abbrev pub set_attributes_row : List Tree → Prog (Option Tree)
 set_attributes_row (s ∷ a ∷ []) = changing with_all (one_or_more s) (attributes_in (one_or_more a))
 set_attributes_row es = unchanged
@@ -78,7 +78,7 @@ abbrev pub clear_attributes_row : List Tree → Prog (Option Tree)
 clear_attributes_row (s ∷ a ∷ []) = changing without_all (one_or_more s) (attributes_in (one_or_more a))
 clear_attributes_row es = unchanged
 
--- ---- `Protect[s]`, `Unprotect[s]`: the list of changed names as strings
+-- ---- `Protect[s]`, `Unprotect[s]`: a list with the name as a string, if that changed something
 
 abbrev pub protect_row : List Tree → Prog (Option Tree)
 protect_row (symbol x ∷ []) = do

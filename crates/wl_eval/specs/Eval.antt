@@ -1,4 +1,4 @@
--- Evaluation: what a program does to a state, and what it did, by levels of turns.
+-- Evaluation: what a program does to a state, and what it did, by levels of turns. Tutorial on the evaluation of expressions, and the reference pages of the two limits; steps are this project's own.
 use Rattle.std.specs.Prelude.{ℕ, zero, suc, ◌+◌, max, Bool, true, false, ◌||◌, List, [], ◌∷◌, ◌++◌, nat_lt, Result, Ok, Err, unwrap_or, codes}
 use Rattle.wl_expr.specs.Tree.{Tree, num, text, symbol, node}
 use Rattle.wl_expr.specs.Words.{Name, Bytes, count_of, natural}
@@ -133,7 +133,7 @@ aborted x t s =
 abbrev pub turning : ℕ → Record
 turning c = record none { turns = c }
 
--- a final expression, and a result that is a number or string, end the evaluation; any other is the subject of the next turn
+-- after the last turn, and with a number or a string, there is a value; with a symbol or a node turns go on
 abbrev pub after_turn : (Tree → State → Res End) → Result Turned End → State → Res End
 after_turn again (Ok (Final t)) s = over (Value t) s
 after_turn again (Ok (Next (num n))) s = over (Value (num n)) s
@@ -164,7 +164,7 @@ opened s = record s { depth = s.depth + 1 }
 abbrev pub closed : ℕ → Res End → Res End
 closed d r = record r { state = record r.state { depth = d }; did = record r.did { depth = r.did.depth + 1 } }
 
--- where a budget ended within, so does this: nothing in the language catches it
+-- a budget that ended within ends this too, whatever was caught
 abbrev pub final : Res End → Res End
 final r = record r { result = elim r.did.out [ true ↦ BudgetEnded | false ↦ r.result ] }
 
@@ -173,7 +173,7 @@ abbrev pub eval_on : Bool → (Tree → State → Res End) → Tree → State �
 eval_on true turns t s = aborted recursion_limit (codes "reclim") s
 eval_on false turns t s = closed s.depth (final (turns t (opened s)))
 
--- numbers and strings evaluate to themselves and cost nothing
+-- a number or a string is its own value, without a turn
 abbrev pub one_eval : (Tree → State → Res End) → Tree → State → Res End
 one_eval turns (num n) s = over (Value (num n)) s
 one_eval turns (text x) s = over (Value (text x)) s

@@ -6,7 +6,7 @@ use Rattle.wl_expr.specs.Special.{Special, condition, special_node}
 use Rattle.wl_expr.specs.Tree.{Tree, node, more, to_list}
 use Rattle.wl_expr.specs.Words.{Name, form, null_symbol}
 
--- the left side with another core
+-- the left side with another core within its conditions and `HoldPattern`
 abbrev pub with_core : Tree → Tree → Tree
 with_core (node h (more l ts)) c = elim (is_around (special_node h (to_list (more l ts)))) [ true ↦ node h (more (with_core l c) ts) | false ↦ c ]
 with_core t c = c
@@ -16,7 +16,7 @@ pub record Sides : Type 0 where
   pub left : Tree
   pub body : Tree
 
--- a right side `r /; c` gives its condition to the left side, once
+-- a condition of the right side, `l := r /; c`, becomes one of the left side, and that once
 abbrev pub moved : Tree → Tree → Special → List Tree → Sides
 moved l v condition (r ∷ c ∷ []) = record { left = form (codes "Condition") (l ∷ c ∷ []); body = r }
 moved l v _ ts = record { left = l; body = v }

@@ -1,4 +1,4 @@
--- What two states must share for an evaluation to go alike in both, and the law that it does.
+-- What two states must share for an evaluation to go alike in both, and the law that it does. This project's own.
 use Rattle.std.specs.Prelude.{◌≡◌, ◌≢◌, ℕ, ◌+◌, ◌-◌, ◌≤◌, Bool, false, List, [], ◌∷◌, Result, Ok, Err}
 use Rattle.wl_expr.specs.Tree.{Tree}
 use Rattle.wl_expr.specs.Words.{Name}
@@ -17,7 +17,7 @@ pub record Calm (d : Record) : Type 0 where
   pub effect : d.effect ≡ false
   pub out : d.out ≡ false
 
--- there is room for what was done
+-- the limits and the steps leave room for what was done
 pub record Enough (t : State) (d : Record) : Type 0 where
   pub depth : t.depth + d.depth ≤ limit recursion_limit t.world
   pub turns : d.turns ≤ limit iteration_limit t.world

@@ -1,4 +1,4 @@
--- Matches, trials of rules, and guards. Tutorial on patterns; the order of the leaves, and that tests run after the whole structure has matched, are this project's own.
+-- Matches, trials of rules, and guards. Tutorials on patterns and on conditions; the order of the leaves, that tests run once a leaf has bound all names, and how guards go, are this project's own.
 use Rattle.std.specs.Prelude.{ℕ, zero, suc, ◌^◌, Bool, true, false, not, ◌&&◌, ◌||◌, List, [], ◌∷◌, Option, Some, None, is_some, codes, bytes_eq}
 use Rattle.wl_expr.specs.Tree.{Tree, symbol, node, none, more}
 use Rattle.wl_expr.specs.Words.{Name, applied, elements, is_true}
@@ -16,7 +16,7 @@ use Rattle.wl_eval.specs.State.{BudgetEnded}
 use Rattle.wl_eval.specs.Prog.{Prog, done, stop, ◌>>=◌, value_of, value_of_built, entry_of, tick, sized, or_else}
 use Rattle.wl_eval.specs.Scoping.{module_body, with_body, in_block}
 
--- ---- the attributes of the heads in a pattern, as they are when the match starts
+-- ---- the attributes of the heads in a pattern, read before the first leaf
 
 abbrev pub flags : AttributeSet → Flags
 flags a = record { flat = a.flat; orderless = a.orderless; one_identity = a.one_identity }
@@ -33,7 +33,7 @@ flags_of met (x ∷ xs) = do
 
 -- ---- the walk over the leaves
 
--- each leaf takes a step; at a binding f says what it gives, and the first that gives something ends the walk
+-- A leaf costs a step. f says what a binding gives, and the first that gives something ends the walk.
 unfoldable pub walk : {A : Type 0} → (Trail → Prog (Option A)) → List Leaf → Prog (Option A)
 walk f [] = done None
 walk f (Fail ∷ ls) = do
@@ -52,14 +52,14 @@ runs (noted a r ∷ es) = runs es
 
 -- ---- tests
 
--- `p?t` evaluates `t[e]` for each element of its run, up to the first that isn't True
+-- `p?t`: `t[e]` is True for one after the other of the expressions that p matched
 unfoldable pub each_applies : Tree → List Tree → Prog Bool
 each_applies t [] = done true
 each_applies t (e ∷ es) = do
   v ← value_of_built (applied t (e ∷ []))
   elim (is_true v) [ true ↦ each_applies t es | false ↦ done false ]
 
--- `p /; c` evaluates c filled with the binding; `Except[c]` asks that a match of c alone finds no binding
+-- `p /; c`: c with the bound names filled in is True. `Except[c]`: c doesn't match, where no name is bound.
 unfoldable pub test_holds : (Tree → Tree → Prog Bool) → List Run → Ask → List Tree → Prog Bool
 test_holds inner rs (applies t) r = each_applies t r
 test_holds inner rs (holds c) r = do
@@ -70,7 +70,7 @@ test_holds inner rs (refuses c) (e ∷ []) = do
   done (not b)
 test_holds inner rs (refuses c) r = done false
 
--- all tests in order, with the whole binding, up to the first that isn't True
+-- the tests as they stand in the pattern, each with all names bound; one that fails is the last
 unfoldable pub tests_hold : (Tree → Tree → Prog Bool) → List Run → Trail → Prog Bool
 tests_hold inner rs [] = done true
 tests_hold inner rs (bound x r ∷ es) = tests_hold inner rs es
@@ -130,26 +130,26 @@ is_scope _ = true
 abbrev pub is_condition : Tree → Bool
 is_condition t = elim (special t) [ condition ↦ true | _ ↦ false ]
 
--- a tree is guarded where it is such a scope with two elements, whose body is a Condition with two elements or guarded
+-- a scope around a condition, or around another such scope
 abbrev pub is_guarded : Tree → Bool
 is_guarded (node (symbol x) (more v (more b none))) = is_scope (scope_named x v b) && (is_condition b || is_guarded b)
 is_guarded t = false
 
--- where the condition's value is True the result is r, else there is none
+-- `r /; c` gives r if c is True, and else nothing
 abbrev pub condition_result : List Tree → Prog (Option Tree)
 condition_result (r ∷ c ∷ []) = do
   v ← value_of c
   elim (is_true v) [ true ↦ done (Some r) | false ↦ done None ]
 condition_result ts = done None
 
--- the result of Block's guard is evaluated inside
+-- what is inside a Block gives its value, while the rules are still set aside
 abbrev pub value_inside : Option Tree → Prog (Option Tree)
 value_inside None = done None
 value_inside (Some r) = do
   v ← value_of r
   done (Some v)
 
--- a guard by its scope, where inner is the guard of the body
+-- the guard of a scope, by that of its body
 abbrev pub guard_by : (Tree → Prog (Option Tree)) → Scope → Tree → Prog (Option Tree)
 guard_by inner (of_module ls b) g = do
   u ← module_body true ls b
@@ -161,7 +161,7 @@ guard_by inner (of_with ls b) g = do
 guard_by inner (of_block ls b) g = in_block ls (do r ← inner b; value_inside r)
 guard_by inner no_scope g = done (Some g)
 
--- The result of a guard, or none. A body that isn't guarded any more is the result. Between two guards that take no step there is a smaller tree, so there are fewer than n.
+-- What a guard gives, if anything. A body that is no guard any more, since values came into it, is given as it is. The number n is never reached: from one guard to the next a step is taken, or the tree is less deep.
 unfoldable pub guard_within : ℕ → Tree → Prog (Option Tree)
 guard_within zero g = stop BudgetEnded
 guard_within (suc n) g =
@@ -175,7 +175,7 @@ guard g = guard_within (2 ^ 80) g
 
 -- ---- a match with a body, and trials
 
--- the first binding whose tests are all True, and whose guard, where there is one, gives a result
+-- what a binding gives: nothing if a test fails, else the body filled, or what its guard gives
 abbrev pub filling : Tree → Trail → Prog (Option Tree)
 filling body e = do
   b ← tests_hold (λ p t. matches p t) (runs e) e
@@ -192,7 +192,7 @@ rule_result r t = do
   f ← flags_of [] (heads r.left)
   walk (filling r.body) (Trials (pattern f r.left) t)
 
--- a trial: for each of these rules in order a match; the first result is the trial's
+-- the rules as they stand; the first that gives something is used, and those that are put in meanwhile aren't tried
 unfoldable pub trial : List PlainRule → Tree → Prog (Option Tree)
 trial [] t = done None
 trial (r ∷ rs) t = do

@@ -48,7 +48,7 @@ match_row (e ∷ p ∷ []) = do
   result (truth b)
 match_row es = unchanged
 
--- `MemberQ[e, p]`, on the elements in order
+-- `MemberQ[e, p]`: whether an element matches
 abbrev pub member_row : List Tree → Prog (Option Tree)
 member_row (e ∷ p ∷ []) = do
   b ← any_matches p (elements e)
@@ -62,7 +62,7 @@ count_row (e ∷ p ∷ []) = do
   result (natural n)
 count_row es = unchanged
 
--- all parts, preorder, heads included
+-- all parts, each before its own parts, and its head before its elements
 abbrev mutual
   pub parts : Tree → List Tree
   parts (num n) = num n ∷ []
@@ -94,7 +94,7 @@ delete_cases_row es = unchanged
 abbrev pub rule_from : Sides → PlainRule
 rule_from s = record { left = s.left; body = s.body }
 
--- a Rule or RuleDelayed; a condition on its right side belongs to the left
+-- `l -> r` or `l :> r`; a condition of r becomes one of l
 abbrev pub rule_of : Tree → Option PlainRule
 rule_of (node h (more l (more r none))) = elim (is_the (codes "Rule") h || is_the (codes "RuleDelayed") h) [ true ↦ Some (rule_from (moved_condition l r)) | false ↦ None ]
 rule_of t = None
@@ -107,7 +107,7 @@ abbrev pub rules_of : List Tree → Option (List PlainRule)
 rules_of [] = Some []
 rules_of (t ∷ ts) = with_rule (rule_of t) (rules_of ts)
 
--- one Rule or RuleDelayed, or a list of these
+-- a rule, or a list of rules
 abbrev pub rules_in : Tree → Option (List PlainRule)
 rules_in t = elim (is_list t) [ true ↦ rules_of (elements t) | false ↦ rules_of (t ∷ []) ]
 
@@ -119,7 +119,7 @@ cases_by found r (t ∷ ts) = do
   u ← rule_result r t
   cases_by (elim u [ None ↦ found | Some v ↦ found ++ v ∷ [] ]) r ts
 
--- `p :> r` as the second element; `p -> r` is a pattern for nodes of Rule
+-- only `p :> r` is a rule there; `p -> r` is a pattern, which matches rules
 abbrev pub delayed_rule : Tree → Option PlainRule
 delayed_rule (node h (more l (more r none))) = elim (is_the (codes "RuleDelayed") h) [ true ↦ Some (rule_from (moved_condition l r)) | false ↦ None ]
 delayed_rule t = None
@@ -136,7 +136,7 @@ cases_row es = unchanged
 
 -- ---- replacement
 
--- `Replace[e, rules]`: e itself by the first rule that matches, else e
+-- `Replace[e, rules]` tries e as a whole, and gives e where no rule matches
 abbrev pub replace_by : Tree → Option (List PlainRule) → Prog (Option Tree)
 replace_by e None = unchanged
 replace_by e (Some rs) = do
@@ -147,12 +147,12 @@ abbrev pub replace_row : List Tree → Prog (Option Tree)
 replace_row (e ∷ r ∷ []) = replace_by e (rules_in r)
 replace_row es = unchanged
 
--- a part that a rule matches is replaced and not entered
+-- what stands for a part isn't searched again
 abbrev pub unless_replaced : Option Tree → Prog Tree → Prog Tree
 unless_replaced (Some u) p = done u
 unless_replaced None p = p
 
--- ReplaceAll: preorder, head before elements
+-- each part before its own parts, and its head before its elements
 unfoldable mutual
   pub replace_all : List PlainRule → Tree → Prog Tree
   replace_all rs (num n) = trial rs (num n) >>= λ u. done (unwrap_or u (num n))
@@ -176,7 +176,7 @@ abbrev pub replace_all_row : List Tree → Prog (Option Tree)
 replace_all_row (e ∷ r ∷ []) = replace_all_by e (rules_in r)
 replace_all_row es = unchanged
 
--- In each pass ReplaceAll, then evaluation of what it gives; it ends with the first pass whose value is identical to what that pass began with. Each pass takes a step.
+-- Replaces in all parts and evaluates, again and again, until that changes nothing. A pass costs a step. The number n is never reached, since there are fewer steps.
 unfoldable pub replace_repeated : ℕ → List PlainRule → Tree → Prog (Option Tree)
 replace_repeated zero rs e = stop BudgetEnded
 replace_repeated (suc n) rs e = do

@@ -1,4 +1,4 @@
--- Print, messages, Off and On, Quiet and Check, and the history. Tutorials on messages and on the history.
+-- Print, messages, Off and On, Quiet and Check, and the history. Tutorials on messages and on the history; what counts as a look at it is this project's own.
 use Rattle.std.specs.Prelude.{ℤ, negsuc, Bool, true, false, List, [], ◌∷◌, ◌++◌, Option, Some, None, option_map, codes}
 use Rattle.wl_expr.specs.Tree.{Tree, text, symbol, node, none, more}
 use Rattle.wl_expr.specs.Words.{Name, Bytes, is_the, int_of, null_symbol}
@@ -6,7 +6,7 @@ use Rattle.wl_rules.specs.Entries as entries
 use Rattle.wl_desk.specs.MessageText.{argument_text}
 use Rattle.wl_eval.specs.Prog.{Prog, done, eval, What, set_off, show, recall_value, recall_input, Answer, nothing, rules, number, found, quietly, checked, ◌>>=◌, now, valued, entry_of, doing, asking, message, unchanged, result}
 
--- ---- `Print[a, b]`: one item, strings as they are, else InputForm, joined
+-- ---- `Print[a, b]`: one item with all of them, strings without quotes
 
 abbrev pub joined : List Tree → Bytes
 joined [] = []
@@ -54,7 +54,7 @@ abbrev pub on_row : List Tree → Prog (Option Tree)
 on_row (m ∷ []) = switch_by false (message_name m)
 on_row es = unchanged
 
--- `MessageName[s, "t"]`: its text where one is stored
+-- `MessageName[s, "t"]` gives the text, if s itself has one
 abbrev pub message_name_row : List Tree → Prog (Option Tree)
 message_name_row (symbol s ∷ text t ∷ []) = do
   e ← entry_of s
@@ -63,12 +63,12 @@ message_name_row es = unchanged
 
 -- ---- Quiet and Check
 
--- `Quiet[e]`: value of e
+-- `Quiet[e]` gives the value of e
 abbrev pub quiet_row : List Tree → Prog (Option Tree)
 quiet_row (e ∷ []) = eval quietly e (λ u b. now (valued u) >>= λ v. result v)
 quiet_row es = unchanged
 
--- `Check[e, f]`: f where e issued a message that isn't off, else the value
+-- `Check[e, f]` gives f if a message was heard while e was evaluated, else the value of e
 abbrev pub check_row : List Tree → Prog (Option Tree)
 check_row (e ∷ f ∷ []) = eval checked e (λ u b. now (valued u) >>= λ v. result (elim b [ true ↦ f | false ↦ v ]))
 check_row es = unchanged
@@ -81,7 +81,7 @@ found_in nothing = None
 found_in (rules r) = None
 found_in (number n) = None
 
--- a look at the history is an effect, whether or not the line is there
+-- looking for a line is an effect, even if there is none
 abbrev pub recalled : What → Prog (Option Tree)
 recalled w = do
   a ← asking w
@@ -91,13 +91,13 @@ abbrev pub recalled_at : (ℤ → What) → Option ℤ → Prog (Option Tree)
 recalled_at f None = unchanged
 recalled_at f (Some n) = recalled (f n)
 
--- `Out[]` gives what `Out[-1]` gives; `Out[-k]` is the value k lines back; `Out[n]` for lines before the present one. Without such a line the expression stays.
+-- `Out[n]` is the value of line n, `Out[-k]` the value k lines back, `Out[]` the last one. A line that isn't there leaves the expression.
 abbrev pub out_row : List Tree → Prog (Option Tree)
 out_row [] = recalled (recall_value (negsuc 0))
 out_row (n ∷ []) = recalled_at recall_value (int_of n)
 out_row es = unchanged
 
--- `In[n]`
+-- `In[n]` is line n as it was read
 abbrev pub in_row : List Tree → Prog (Option Tree)
 in_row (n ∷ []) = recalled_at recall_input (int_of n)
 in_row es = unchanged

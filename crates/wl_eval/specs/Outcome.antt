@@ -12,7 +12,7 @@ use Rattle.wl_eval.specs.Eval.{Res, Eval}
 abbrev pub held : Tree → Tree
 held t = form (codes "Hold") (t ∷ [])
 
--- an uncaught Break or Continue is a value
+-- a Break or Continue that nothing caught is held as a value
 abbrev pub outcome : End → End
 outcome Broke = Value (held (form (codes "Break") []))
 outcome Continued = Value (held (form (codes "Continue") []))
@@ -29,7 +29,7 @@ abbrev pub thrown : Tree → Option Tree → Tree
 thrown v None = form (codes "Throw") (v ∷ [])
 thrown v (Some t) = form (codes "Throw") (v ∷ t ∷ [])
 
--- the value of an uncaught Throw, with its message; where it is too large another message alone
+-- the value of a Throw that nothing caught, with its message; or the message that it doesn't fit
 abbrev pub uncaught : Tree → Option Tree → Prog Tree
 uncaught v t =
     elim (fits (held (thrown v t))) [

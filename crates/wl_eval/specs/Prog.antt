@@ -1,4 +1,4 @@
--- Programs: what a row, a match and a turn ask for, one after the other.
+-- Programs: what a row, a match and a turn ask for, one question after the other. This form of the definition is this project's own.
 use Rattle.std.specs.Prelude.{ℕ, ℤ, zero, suc, Bool, true, false, List, [], Option, Some, None, Result, Ok, Err, codes}
 use Rattle.wl_expr.specs.Tree.{Tree, symbol}
 use Rattle.wl_expr.specs.Words.{Name, Bytes, fits}
@@ -7,7 +7,7 @@ use Rattle.wl_rules.specs.Entries.{PlainRule, Rules, Entry}
 use Rattle.wl_rules.specs.declared.rule.RuleKind.{RuleKind}
 use Rattle.wl_eval.specs.State.{End, Value, Thrown, Aborted, BudgetEnded, Broke, Continued}
 
--- the effects
+-- what a program may change, show or look up, besides definitions that it reads
 pub data What : Type 0 where
   put_rule : Name → RuleKind → PlainRule → What
   remove_rule : Name → RuleKind → Tree → What
@@ -135,7 +135,7 @@ unchanged = done None
 abbrev pub result : Tree → Prog (Option Tree)
 result t = done (Some t)
 
--- what was found, or else what else there is
+-- the first of the two that gives something
 unfoldable pub or_else : {A : Type 0} → Option A → Prog (Option A) → Prog (Option A)
 or_else None p = p
 or_else (Some a) p = done (Some a)

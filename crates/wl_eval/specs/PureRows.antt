@@ -1,4 +1,4 @@
--- The rows that look at their arguments alone: arithmetic, lists and strings.
+-- The rows that look at their elements alone, of arithmetic, lists and strings, with the messages that come of them.
 use Rattle.std.specs.Prelude.{List, [], ◌∷◌, Option, codes}
 use Rattle.wl_expr.specs.Tree.{Tree}
 use Rattle.wl_expr.specs.Words.{Name}

@@ -43,7 +43,7 @@ block_row es = unchanged
 
 -- ---- Function
 
--- `#n` is the n-th argument, `#0` the function; `##n` is the Sequence of the arguments from the n-th on, n at most one more than their number. Missing ones and `##0` stay.
+-- `#n` is the argument with that number, `#0` the function; `##n` is all arguments from that number on, perhaps none. A slot for which there is no argument stays.
 abbrev pub slot : Tree → List Tree → Tree → ℕ → Tree
 slot f args t zero = f
 slot f args t (suc n) = unwrap_or (slice_get args n) t
@@ -66,7 +66,7 @@ abbrev pub is_inner : Tree → List Tree → Bool
 is_inner h (b ∷ []) = is_the (codes "Function") h
 is_inner h ts = false
 
--- the body with its slots replaced; no parameter is renamed
+-- the body with its slots replaced; this renames nothing within
 abbrev mutual
   pub with_slots : Tree → List Tree → Tree → Tree
   with_slots f args (num n) = num n
@@ -82,7 +82,7 @@ abbrev mutual
   with_slots_in f args none = none
   with_slots_in f args (more t ts) = more (with_slots f args t) (with_slots_in f args ts)
 
--- names are replaced where there are enough arguments
+-- with too few arguments the expression stays; those that are too many are dropped
 abbrev pub with_names : Tree → Option (List Name) → List Tree → Option Tree
 with_names b None args = None
 with_names b (Some xs) args = elim (nat_le (length xs) (length args)) [ true ↦ Some (replace b xs args) | false ↦ None ]

@@ -9,11 +9,11 @@ use Rattle.wl_shape.specs.Scopes.{Local}
 use Rattle.wl_shape.specs.Fill.{replace, rename, numbered}
 use Rattle.wl_eval.specs.Prog.{Prog, done, put_rule, take_rules, give_rules, draw, Answer, nothing, rules, number, found, ◌>>=◌, ended, now, value_of, doing, asking, message, sized, is_protected}
 
--- the symbol gets this value; its rules are stored whole
+-- The symbol gets this value. A condition in it stays where it is, other than in a definition.
 abbrev pub set_own : Name → Tree → Prog (Unit {0})
 set_own x v = doing (put_rule x Own (record { left = symbol x; body = v }))
 
--- ---- initial values, in order
+-- ---- initial values, from left to right
 
 abbrev pub initial : Local → Prog Local
 initial l = elim l.value [
@@ -44,7 +44,7 @@ number_in nothing = 0
 number_in (rules r) = 0
 number_in (found t) = 0
 
--- the local variable of this Module; a Protected one isn't set
+-- a variable of this Module gets its value, unless its name is Protected
 abbrev pub set_numbered : Name → Tree → Prog (Unit {0})
 set_numbered x v = do
   p ← is_protected x
@@ -63,7 +63,7 @@ abbrev pub sized_if : Bool → Tree → Prog (Unit {0})
 sized_if true t = sized t
 sized_if false t = done tt
 
--- Evaluates the initial values in order, draws the next module number n, renames each name to `x$n` in the body, and sets the given values. A guard's body is tested before they are set.
+-- The initial values come first, then a number n that wasn't drawn before. In the body each name x is `x$n`, and these get the values. Of a guard the size of this body is tested before that.
 abbrev pub module_body : Bool → List Local → Tree → Prog Tree
 module_body guards ls b = do
   vs ← initials [] ls
@@ -76,7 +76,7 @@ module_body guards ls b = do
 
 -- ---- With
 
--- evaluates the values and gives the body with the names replaced
+-- the initial values, and the body with these in place of the names
 abbrev pub with_body : List Local → Tree → Prog Tree
 with_body ls b = do
   vs ← initials [] ls
@@ -84,7 +84,7 @@ with_body ls b = do
 
 -- ---- Block
 
--- whether Block may touch a name: a Protected one is passed over with a message, and a limit without a value that it may have is left with another
+-- whether Block takes a name: not a Protected one, and one of the two limits only with a value that is allowed; a message tells why not
 abbrev pub may_block : Local → Prog Bool
 may_block l = do
   p ← is_protected l.name
@@ -106,7 +106,7 @@ blocked os (l ∷ ls) = do
   b ← may_block l
   elim b [ true ↦ blocked (os ++ l ∷ []) ls | false ↦ blocked os ls ]
 
--- what was taken out of an entry for a time
+-- the rules that were taken out of an entry for a time
 pub record Taken : Type 0 where
   pub name : Name
   pub rules : Rules PlainRule
@@ -146,7 +146,7 @@ give_all (t ∷ ts) = do
   _ ← give_back t
   give_all ts
 
--- Evaluates the initial values in order, looks at the names, takes their rules away, sets the values, does what is inside, and gives the rules back however that ended, the last first.
+-- First all initial values, then a look at each name; then the rules are set aside and the values set. After what is inside, whatever its end, the rules come back, those that were taken last first.
 abbrev pub in_block : {R : Type 0} → List Local → Prog R → Prog R
 in_block ls inside = do
   vs ← initials [] ls

@@ -1,4 +1,4 @@
--- Settled expressions: each gives itself in one turn without an effect, and so do its head and each element that the turn evaluates.
+-- Settled expressions: one turn gives them themselves and has no effect, and their head and the elements that it evaluates are settled too. This project's own.
 use Rattle.std.specs.Prelude.{◌≡◌, ◌+◌, max, Bool, true, false, List, [], ◌∷◌, ◌++◌, Result, Ok, Err}
 use Rattle.wl_expr.specs.Tree.{Tree, Trees, num, text, symbol, node, none, more}
 use Rattle.wl_expr.specs.Words.{Name}

@@ -1,4 +1,4 @@
--- A turn of a symbol and of a node. Tutorials Evaluation of Expressions and The Standard Evaluation Procedure.
+-- A turn of a symbol and of a node. Tutorials on the evaluation of expressions and on the standard evaluation procedure; when a turn is the last one is this project's own.
 use Rattle.std.specs.Prelude.{Bool, true, false, List, [], ◌∷◌, Option, Some, None, filter_map, codes}
 use Rattle.wl_expr.specs.Tree.{Tree, num, text, symbol, node, to_list}
 use Rattle.wl_expr.specs.Same.{same, first_names}
@@ -14,18 +14,18 @@ use Rattle.wl_eval.specs.Elements.{evaluated, bared, is_bared}
 use Rattle.wl_eval.specs.Match.{trial}
 use Rattle.wl_eval.specs.BuiltIn.{built_in}
 
--- the rules of that kind that the symbol has when the trial starts
+-- the rules of that kind that the symbol has by then
 abbrev pub tried : RuleKind → Name → Tree → Prog (Option Tree)
 tried k x t = do
   e ← entry_of x
   trial (of_kind k e.rules) t
 
--- The turn is final where no rule applies, or where its result is identical to what was tried.
+-- without a rule that applies the turn is the last one, and so it is where the rule gives what was tried
 abbrev pub turned : Tree → Tree → Option Tree → Turned
 turned form final None = Final final
 turned form final (Some u) = elim (same u form) [ true ↦ Final final | false ↦ Next u ]
 
--- its own values are tried; where none applies, or the result is the symbol itself, the symbol is final
+-- a symbol without a value of its own stays
 abbrev pub symbol_turn : Name → Prog Turned
 symbol_turn x = do
   r ← tried Own x (symbol x)
@@ -33,7 +33,7 @@ symbol_turn x = do
 
 -- ---- the rules of a node
 
--- the symbols whose up rules are tried: of each element that is a symbol, or a node with a symbol as head, each once
+-- an element has the up rules of the symbol that it is, or that is its head; no symbol is asked twice
 abbrev pub up_name : Tree → Option Name
 up_name (symbol x) = Some x
 up_name t = head_name t
@@ -47,11 +47,11 @@ up_result (x ∷ xs) t = do
   r ← tried Up x t
   or_else r (up_result xs t)
 
--- unless HoldAllComplete, up values are tried
+-- HoldAllComplete keeps up rules away
 abbrev pub up_values : AttributeSet → Tree → Prog (Option Tree)
 up_values a t = elim a.hold_all_complete [ true ↦ done None | false ↦ up_result (up_names (elements t)) t ]
 
--- where the head is a symbol its down rules; where it is a node the sub rules of its leftmost symbol, if its leftmost head is a symbol
+-- `f[..]` has the down rules of f; `f[..][..]` and `f[..][..][..]` have the sub rules of f
 abbrev pub sub_values : Tree → Tree → Prog (Option Tree)
 sub_values (symbol x) t = tried Sub x t
 sub_values h t = done None
@@ -61,7 +61,7 @@ head_values (node (symbol x) ts) = tried Down x (node (symbol x) ts)
 head_values (node h ts) = sub_values (leftmost h) (node h ts)
 head_values t = done None
 
--- the result of the first rule that applies: up values, then down or sub values, then the built-in rule
+-- up rules come before down and sub rules, and all of these before the built-in function
 abbrev pub applied_rule : AttributeSet → Tree → Prog (Option Tree)
 applied_rule a t = do
   u ← up_values a t
@@ -71,7 +71,7 @@ applied_rule a t = do
 
 -- ---- a turn of a node
 
--- The final expression is the rebuilt form, but the first form where an Unevaluated was taken away.
+-- a node that stays keeps the Unevaluated of its elements
 abbrev pub final_form : Bool → Tree → Tree → Tree
 final_form true first form = first
 final_form false first form = form
@@ -81,7 +81,7 @@ rules_turn a first changed form = do
   r ← applied_rule a form
   done (turned form (final_form changed first form) r)
 
--- a threaded list is the turn's result; lists of different lengths give a message, and the turn goes on
+-- no rule is tried on what is threaded over; lists that don't fit together are told, and stay elements
 abbrev pub shaped_turn : AttributeSet → Tree → Bool → Shaped → Prog Turned
 shaped_turn a first changed (rebuilt form) = rules_turn a first changed form
 shaped_turn a first changed (threaded list) = do
@@ -91,7 +91,7 @@ shaped_turn a first changed (uneven form) = do
   _ ← message (codes "Thread") (codes "tdlen") (form ∷ [])
   rules_turn a first changed form
 
--- The head is evaluated, and its attributes are read once; the elements are evaluated, and what stands now is the first form; then it is shaped, and the rules are tried.
+-- The head, then the elements as its attributes have it, which gives the first form; sequences, threading and sorting give the rebuilt form, on which the rules are tried.
 abbrev pub node_turn : Tree → List Tree → Prog Turned
 node_turn h es = do
   k ← value_of h

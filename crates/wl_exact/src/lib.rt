@@ -6,6 +6,3 @@ mod num;
 mod whole;
 
 pub use num::{Num, NumFault};
-
-#[cfg(test)]
-mod tests;

@@ -17,6 +17,3 @@ pub use fault::ExprFault;
 pub use look::Look;
 pub use order::sort;
 pub use stamp::{ReadList, Stamp};
-
-#[cfg(test)]
-mod tests;

@@ -17,6 +17,3 @@ pub use boxed::boxes;
 pub use full::full_form;
 pub use input::input_form;
 pub use operator::{Infix, Marks, Postfix, Prefix, Row};
-
-#[cfg(test)]
-mod tests;

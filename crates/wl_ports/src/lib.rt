@@ -10,8 +10,6 @@ mod name;
 mod ports;
 mod std_sink;
 mod std_source;
-#[cfg(test)]
-mod tests;
 mod work;
 
 pub use buffer::put;

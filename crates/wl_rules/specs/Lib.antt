@@ -1,5 +1,6 @@
 pub mod Attributes
 pub mod Key
+pub mod WorkedKeys
 pub mod RuleLists
 pub mod RuleLaws
 pub mod Entries

@@ -13,9 +13,6 @@ use std::marker::Model;
 use wl_expr::{Expr, Look};
 use wl_ports::Memory;
 
-#[cfg(test)]
-mod tests;
-
 /// How specific a left side is: digits in preorder, and how many tests stand beside them.
 #[derive(Drop)]
 pub(crate) struct Key {

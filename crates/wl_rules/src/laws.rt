@@ -1,5 +1,6 @@
 //! What holds of the definitions that the contracts cite.
 ghost use Rattle.wl_rules.specs.RuleLaws.{IsInOrderAtFirst, StaysInOrder, StaysInOrderWithout, IsInOrderAfter, StandAsTheyCame};
+ghost use Rattle.wl_rules.specs.WorkedKeys.{WorkedKeys};
 
 /// Rules are always in the order of their keys.
 #[tactic(auto, using(crate::proofs::RuleOrder::removed_in_order))]
@@ -13,4 +14,9 @@ pub fn rules_stay_in_order()
 pub fn rules_stand_as_they_came()
     ensures sorted { IsInOrderAfter }
     ensures stable { StandAsTheyCame }
+{}
+
+/// The keys of a few left sides.
+pub fn worked_keys()
+    ensures { WorkedKeys }
 {}

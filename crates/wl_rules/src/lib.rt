@@ -15,8 +15,6 @@ mod rule_sets;
 mod start;
 mod store;
 mod table;
-#[cfg(test)]
-mod tests;
 
 pub use attribute::{Attribute, Attributes};
 pub use fault::StoreFault;

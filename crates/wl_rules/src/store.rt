@@ -26,9 +26,6 @@ use std::marker::Model;
 use wl_expr::Expr;
 use wl_ports::{Ledger, Memory, Work};
 
-#[cfg(test)]
-mod tests;
-
 /// The definitions of all names. Each name that was met has an index, which stays, and an entry. Each change of an entry
 /// draws a version for it, greater than all before, up to the greatest number of 64 bits, which is given again and again.
 #[derive(Drop)]

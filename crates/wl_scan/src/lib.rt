@@ -9,8 +9,6 @@ mod lengths;
 mod numbers;
 mod place;
 mod signs;
-#[cfg(test)]
-mod tests;
 mod token;
 mod tokens;
 

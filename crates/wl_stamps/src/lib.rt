@@ -4,8 +4,6 @@
 pub mod laws;
 mod liveness;
 mod reads;
-#[cfg(test)]
-mod tests;
 mod trial;
 
 pub use liveness::live;

@@ -14,8 +14,6 @@ mod operator;
 mod parser;
 mod tags;
 mod terms;
-#[cfg(test)]
-mod tests;
 mod token;
 
 pub use cell::parse;
