@@ -18,6 +18,7 @@ mod Rows
 mod Values
 mod Turning
 mod Evaluating
+mod Changing
 mod Fitting
 mod Flagging
 mod Computed

@@ -194,6 +194,9 @@ pub record Changes (a : Stored) (x : Name) (i : ℕ) (make : Entry PlainRule →
   pub distinct : AreDistinct b.rows
   pub drawn : b.drawn ≤ last_version
   pub honest : HonestStore a → HonestRules b e.rules → HonestStore b
+  pub index : IsIndex i b
+  pub name : name_at i b ≡ x
+  pub entry : entry_at i b ≡ e
 
 pub changes : (a s b : Stored) (x : Name) (i : ℕ) (make : Entry PlainRule → Entry PlainRule) (e : Entry Rule) → AreDistinct a.rows → a.drawn ≤ last_version → Indexed a x i s
     → b ≡ changed i e s → Defines (name_at i s) make s b → Changes a x i make e b
@@ -206,5 +209,11 @@ changes a s b x i make e d m t c f =
       definitions = fun_ext f ∙ ap₂ (λ z (h : Name → Entry PlainRule). with_entry z (make (h z)) h) t.name t.kept.definitions;
       distinct = subst (λ (z : Stored). AreDistinct z.rows) (sym c) (changed_distinct s i e t.index ds);
       drawn = let q = ap (λ (z : Stored). z.drawn) c in omega (arith, q);
+      index = let q = ap (λ (z : Stored). length z.rows) c in let l = length-with_slot s.rows i (slot s i e t.index ds) in omega (arith, q, l, t.index);
+      name = ap (name_at i) c ∙ changed_name s i e t.index ds i ∙ t.name;
+      entry = ap (entry_at i) c ∙ ap (λ (r : Name × Slot). r.1.entry) (changed_row s i e t.index ds);
       honest = λ h k. subst (HonestRows b) (sym c) (changed_honest s i e t.index ds b (t.honest b (λ j. rules_grow a b g (entry_at j a).rules (h j))) k);
     }
+
+pub indexed_there : (a : Stored) (x : Name) (i : ℕ) → IsIndex i a → name_at i a ≡ x → Indexed a x i a
+indexed_there a x i h n = record { index = h; name = n; kept = kept_refl a; distinct = λ d. d; honest = λ c g. g }

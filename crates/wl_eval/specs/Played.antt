@@ -11,7 +11,7 @@ use Rattle.wl_expr.specs.declared.fault.ExprFault.TheVariants as fault
 use Rattle.wl_expr.specs.declared.stamp.Stamp.{Stamp}
 use Rattle.wl_rules.specs.Attributes.{AttributeSet}
 use Rattle.wl_rules.specs.Changes.{AreDistinct}
-use Rattle.wl_rules.specs.Entries.{Rules, of_kind, left_side}
+use Rattle.wl_rules.specs.Entries.{PlainRule, of_kind, left_side}
 use Rattle.wl_rules.specs.RuleLists.{has_left}
 use Rattle.wl_rules.specs.StampedRules.{plain_rule}
 use Rattle.wl_rules.specs.Stored.{Stored, IsIndex, name_at, definitions}
@@ -320,21 +320,21 @@ pub record Looked (x : Name) (k : Evaluator) (i : ℕ) (k' : Evaluator) : Type 0
   pub index : IsIndex i k'.store
   pub name : name_at i k'.store ≡ x
 
--- the number of a limit, where the name is that of one
-pub record IsLimit (x : Name) (rs : Rules Rule) (n : ℕ) : Type 0 where
-  pub recursion : x ≡ recursion_limit → (number_in (map plain_rule rs.own) ≡ n) × (n ≤ 512)
-  pub iteration : x ≡ iteration_limit → (number_in (map plain_rule rs.own) ≡ n) × (n ≤ 1000000)
+-- the number of a limit with these own rules, where the name is that of one
+pub record IsLimit (x : Name) (own : List PlainRule) (n : ℕ) : Type 0 where
+  pub recursion : x ≡ recursion_limit → (number_in own ≡ n) × (n ≤ 512)
+  pub iteration : x ≡ iteration_limit → (number_in own ≡ n) × (n ≤ 1000000)
 
 -- what was taken out of the entry of this name
 pub record IsTaken (k : Evaluator) (x : Name) (t : Taken) : Type 0 where
   pub index : IsIndex t.index k.store
   pub name : name_at t.index k.store ≡ x
   pub honest : HonestRules k.store t.rules
-  pub limit : IsLimit x t.rules t.number
+  pub limit : IsLimit x (map plain_rule t.rules.own) t.number
 
 -- the evaluator with this number of a limit, where the name is that of one
 abbrev pub with_number : Name → ℕ → Evaluator → Evaluator
-with_number x n k = if bytes_eq x recursion_limit then record k { recursion = n } else (if bytes_eq x iteration_limit then record k { iteration = n } else k)
+with_number x n k = record k { recursion = if bytes_eq x recursion_limit then n else k.recursion; iteration = if bytes_eq x iteration_limit then n else k.iteration }
 
 abbrev pub IsUnprotected : Name → Evaluator → Type 0
 IsUnprotected x k = (definitions k.store x).attributes.protected ≡ false
