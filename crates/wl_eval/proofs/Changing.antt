@@ -20,7 +20,7 @@ use Rattle.wl_rules.specs.Stored.{changed as changed_store}
 use Rattle.wl_rules.specs.declared.rule.Rule.{Rule}
 use Rattle.wl_rules.specs.declared.rule.RuleKind.{RuleKind}
 use Rattle.wl_rules.specs.declared.rule.RuleKind.TheVariants.{Own, Down, Up, Sub}
-use Rattle.wl_eval.specs.State.{World, State}
+use Rattle.wl_eval.specs.State.{State}
 use Rattle.wl_eval.specs.Prog.{What, doing, asking}
 use Rattle.wl_eval.specs.Effects.{acted, changed}
 use Rattle.wl_eval.specs.LeftSides.{is_limit, limit_allows, recursion_limit, iteration_limit}
@@ -122,7 +122,7 @@ either_same false a = refl
 
 -- the change, what the definitions have of the name before and after, and the numbers of the limits after
 module _ (a : What) (k : Evaluator) (b : Stored) (x : Name) (i : ℕ) (make : Entry PlainRule → Entry PlainRule) (e : Entry Rule) (n : ℕ) (ch : Changes k.store x i make e b)
-  (act : (acted a (state k).world).1 ≡ changed x make (state k).world) (h : Sound k) (rules : HonestRules b e.rules) (number : IsLimit x (make (definitions k.store x)).rules.own n) where
+    (act : (acted a (state k).world).1 ≡ changed x make (state k).world) (h : Sound k) (rules : HonestRules b e.rules) (number : IsLimit x (make (definitions k.store x)).rules.own n) where
   abbrev after : Evaluator
   after = record (with_number x n (record k { store = b })) { log = None }
 
@@ -161,8 +161,10 @@ number_stays k x b h own p q = cases (bytes_eq x recursion_limit) (bytes_eq x it
   where
     none : bytes_eq x recursion_limit ≡ false → x ≡ recursion_limit → ⊥
     none e s = true≢false (sym (subst (λ z. bytes_eq z recursion_limit ≡ true) (sym s) refl) ∙ e)
+
     no : bytes_eq x iteration_limit ≡ false → x ≡ iteration_limit → ⊥
     no e s = true≢false (sym (subst (λ z. bytes_eq z iteration_limit ≡ true) (sym s) refl) ∙ e)
+
     cases : (c d : Bool) → bytes_eq x recursion_limit ≡ c → bytes_eq x iteration_limit ≡ d → (n : ℕ) × IsLimit x own n × (record (with_number x n (record k { store = b })) { log = None } ≡ record k { store = b; log = None })
     cases true d e f =
         let s : x ≡ recursion_limit = same_text x recursion_limit (sym e) in
@@ -216,10 +218,6 @@ change_other a k s b x i make e h l t c d act r =
 
 -- ---- the numbers after a rule is put
 
--- the number of a rule alone
-number_of_rule : PlainRule → ℕ
-number_of_rule r = number_in (r ∷ [])
-
 first_most : (b : Bool) (most : ℕ) (rs qs : List PlainRule) → number_in rs ≤ most → number_in qs ≤ most → number_in (if b then rs else qs) ≤ most
 first_most true most rs qs h g = h
 first_most false most rs qs h g = g
@@ -250,13 +248,13 @@ within_most most (Some n) h = leb-true n most (and_right (nat_le 20 n) (nat_le n
 pub put_limit : (k : Evaluator) (x : Name) (kind : RuleKind) (n : PlainRule) (m : ℕ) → Sound k → MayHave x n.body → m ≡ number_in (entries.put_rule left_side kind n (definitions k.store x)).rules.own → IsLimit x (entries.put_rule left_side kind n (definitions k.store x)).rules.own m
 put_limit k x kind n m h may e = record {
   recursion = λ s.
-    let a : is_within 512 (count_of n.body) ≡ true = subst (λ z. limit_allows z n.body ≡ true) s (may (subst (λ z. is_limit z ≡ true) (sym s) refl)) in
-    let g : number_in (definitions k.store x).rules.own ≤ 512 = (let w : number_in (definitions k.store x).rules.own ≡ k.recursion = ap (λ z. number_in (definitions k.store z).rules.own) s ∙ h.recursion in omega (arith, w, h.recursion_most)) in
-    (sym e, (let w = put_most 512 kind n (definitions k.store x) (within_most 512 (count_of n.body) a) g in omega (arith, w, e)));
+      let a : is_within 512 (count_of n.body) ≡ true = subst (λ z. limit_allows z n.body ≡ true) s (may (subst (λ z. is_limit z ≡ true) (sym s) refl)) in
+      let g : number_in (definitions k.store x).rules.own ≤ 512 = (let w : number_in (definitions k.store x).rules.own ≡ k.recursion = ap (λ z. number_in (definitions k.store z).rules.own) s ∙ h.recursion in omega (arith, w, h.recursion_most)) in
+      (sym e, (let w = put_most 512 kind n (definitions k.store x) (within_most 512 (count_of n.body) a) g in omega (arith, w, e)));
   iteration = λ s.
-    let a : is_within 1000000 (count_of n.body) ≡ true = subst (λ z. limit_allows z n.body ≡ true) s (may (subst (λ z. is_limit z ≡ true) (sym s) refl)) in
-    let g : number_in (definitions k.store x).rules.own ≤ 1000000 = (let w : number_in (definitions k.store x).rules.own ≡ k.iteration = ap (λ z. number_in (definitions k.store z).rules.own) s ∙ h.iteration in omega (arith, w, h.iteration_most)) in
-    (sym e, (let w = put_most 1000000 kind n (definitions k.store x) (within_most 1000000 (count_of n.body) a) g in omega (arith, w, e)));
+      let a : is_within 1000000 (count_of n.body) ≡ true = subst (λ z. limit_allows z n.body ≡ true) s (may (subst (λ z. is_limit z ≡ true) (sym s) refl)) in
+      let g : number_in (definitions k.store x).rules.own ≤ 1000000 = (let w : number_in (definitions k.store x).rules.own ≡ k.iteration = ap (λ z. number_in (definitions k.store z).rules.own) s ∙ h.iteration in omega (arith, w, h.iteration_most)) in
+      (sym e, (let w = put_most 1000000 kind n (definitions k.store x) (within_most 1000000 (count_of n.body) a) g in omega (arith, w, e)));
 }
 
 -- the number is small where the name is that of a limit

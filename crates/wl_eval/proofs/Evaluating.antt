@@ -25,13 +25,11 @@ use Rattle.wl_eval.specs.declared.ends.Turned.TheVariants as made
 use Rattle.wl_eval.proofs.Level.{Eval-is}
 use Rattle.wl_eval.proofs.Bind.{then_none}
 use Rattle.wl_eval.proofs.Keeps.{Turns-depth, Turns-quiets}
+use Rattle.wl_eval.proofs.Names.{some_inj}
 use Rattle.wl_eval.proofs.Stores.{grows_refl}
 use Rattle.wl_eval.proofs.Playing.{plays_bind, plays_now, notes_none}
 use Rattle.wl_eval.proofs.Rows.{no_stamp_inside}
 use Rattle.wl_eval.proofs.Turning.{marked, turns_end, turns_on, aborted_state, aborted_notes}
-
-some_inj : {A : Type 0} {a b : A} → Some a ≡ Some b → a ≡ b
-some_inj e = cc
 
 eval_is : (t : Tree) (s : State) → Go (end_of t) s ≡ record { result = Ok (Eval t s).result; state = (Eval t s).state; did = (Eval t s).did then none }
 unfolding end_of interp

@@ -19,6 +19,7 @@ mod Values
 mod Turning
 mod Evaluating
 mod Changing
+mod Recalling
 mod Fitting
 mod Flagging
 mod Computed

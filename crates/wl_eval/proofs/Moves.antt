@@ -33,7 +33,7 @@ use Rattle.wl_eval.specs.declared.evaluator.Log.{Log}
 use Rattle.wl_eval.specs.declared.evaluator.Evaluator.{Evaluator}
 use Rattle.wl_eval.proofs.Bind.{or_none}
 use Rattle.wl_eval.proofs.Keeps.{acted-quiets}
-use Rattle.wl_eval.proofs.Names.{same_refl, same_again}
+use Rattle.wl_eval.proofs.Names.{some_inj, same_refl, same_again}
 use Rattle.wl_eval.proofs.Stores.{kept_grows, grows_refl, honest_grows, rules_grow}
 use Rattle.wl_eval.proofs.Placed.{Indexed, defined_at}
 use Rattle.wl_eval.proofs.Playing.{notes_none, notes_alike, began_none, began_notes, plays_bind, plays_done_is}
@@ -166,9 +166,6 @@ abbrev pub looked_log : ℕ → ℕ → Option Log → Option Log
 looked_log i v None = None
 looked_log i v (Some u) = Some (record u { reads = noted u.reads (i, v) })
 
-name_of : Name × Slot → Name
-name_of r = r.0
-
 pub names_kept : (a b : Stored) → Kept a b → (rs : List Read) → All (λ (r : Read). IsIndex r.0 a) rs → names_in b rs ≡ names_in a rs
 names_kept a b k [] c = refl
 names_kept a b k (r ∷ rs) c =
@@ -214,9 +211,6 @@ once_noted rs r d = cases (version_of r.0 rs) refl
     cases : (o : Option ℕ) → version_of r.0 rs ≡ o → reads.AreDistinct (or_behind o rs r)
     cases (Some v) e = d
     cases None e = subst (IsDistinct nat_eq) (sym (map-append (λ (q : Read). q.0) rs (r ∷ []))) (IsDistinct-push nat_eq_equiv (keys_of rs) r.0 d (sym (is_some-lookup (nat_eq r.0) rs) ∙ ap is_some e))
-
-some_inj : {A : Type 0} {a b : A} → Some a ≡ Some b → a ≡ b
-some_inj e = cc
 
 looked_is : (x : Name) (s : State) → Go (entry_of x) s ≡ record { result = Ok (s.world.definitions x); state = s; did = reading (x ∷ []) then none }
 unfolding entry_of interp

@@ -1,5 +1,5 @@
--- Names as sets.
-use Rattle.std.proofs.Common.{◌≡◌, ℕ, zero, suc, ◌<◌, List, [], ◌∷◌, ◌++◌, ◌⊎◌, inl, inr, length, map, get_or, refl, subst, arith, Contains}
+-- Names as sets, and small things.
+use Rattle.std.proofs.Common.{◌≡◌, ℕ, zero, suc, ◌<◌, List, [], ◌∷◌, ◌++◌, ◌⊎◌, inl, inr, length, map, get_or, Some, refl, subst, arith, Contains}
 use Rattle.std.proofs.lemmas.List.Elements.{Contains-append_left, Contains-append_right, Contains-append_cases}
 use Rattle.wl_expr.specs.Words.{Name}
 use Rattle.wl_rules.specs.Entries.{Definitions}
@@ -10,6 +10,9 @@ use Rattle.wl_eval.specs.Local.{Agree}
 pub either : {A B C : Type 0} → A ⊎ B → (A → C) → (B → C) → C
 either (inl a) f g = f a
 either (inr b) f g = g b
+
+pub some_inj : {A : Type 0} {a b : A} → Some a ≡ Some b → a ≡ b
+some_inj e = cc
 
 pub same_refl : (xs : List Name) → Same xs xs
 same_refl xs = record { to = λ x h. h; from = λ x h. h }

@@ -12,7 +12,7 @@ use Rattle.wl_eval.specs.declared.evaluator.Log.{Log}
 use Rattle.wl_eval.specs.declared.evaluator.Evaluator.{Evaluator}
 use Rattle.wl_eval.proofs.Bind.{interp-bind, or_assoc, or_none, then_none}
 use Rattle.wl_eval.proofs.Keeps.{Go-depth}
-use Rattle.wl_eval.proofs.Names.{same_refl, same_trans, same_append}
+use Rattle.wl_eval.proofs.Names.{some_inj, same_refl, same_trans, same_append}
 use Rattle.wl_eval.proofs.Stores.{kept_refl, kept_trans, grows_refl, grows_trans}
 
 -- ---- logs
@@ -64,9 +64,6 @@ notes_alike k k' d e n f p t h = record {
         turns = omega (arith, a.turns, t);
       };
 }
-
-some_inj : {A : Type 0} {a b : A} → Some a ≡ Some b → a ≡ b
-some_inj e = cc
 
 -- the same store and the same log
 pub notes_none : (k k' : Evaluator) → k'.store ≡ k.store → k'.log ≡ k.log → Notes k none k'

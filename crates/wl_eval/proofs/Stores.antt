@@ -44,12 +44,6 @@ grows_trans {a} {b} {c} p q = record {
       ap (definitions c) (sym (p.names i h)) ∙ q.entries i j w n ∙ ap (definitions b) (p.names i h) ∙ p.entries i h (subst (λ z. z ≤ a.drawn) e v) (λ x. n (e ∙ x));
 }
 
-name_of : Name × Slot → Name
-name_of r = r.0
-
-version_of : Name × Slot → ℕ
-version_of r = r.1.version
-
 pub kept_grows : {a b : Stored} → Kept a b → Grows a b
 kept_grows {a} {b} k = record {
   more = k.more;

@@ -18,12 +18,9 @@ use Rattle.wl_eval.specs.declared.evaluator.Evaluator.{Evaluator}
 use Rattle.wl_eval.proofs.Level.{Turns-is}
 use Rattle.wl_eval.proofs.Bind.{then_assoc, then_none, or_none}
 use Rattle.wl_eval.proofs.Keeps.{Go-depth}
-use Rattle.wl_eval.proofs.Names.{same_refl}
+use Rattle.wl_eval.proofs.Names.{some_inj, same_refl}
 use Rattle.wl_eval.proofs.Stores.{kept_refl, grows_trans}
 use Rattle.wl_eval.proofs.Playing.{notes_then, began_notes}
-
-some_inj : {A : Type 0} {a b : A} → Some a ≡ Some b → a ≡ b
-some_inj e = cc
 
 -- ---- a turn with its step
 

@@ -1,17 +1,11 @@
-use Rattle.std.proofs.Common.{◌≡◌, sym, ap, ◌∙◌, refl, subst, Ok, None, false, map, arith}
-use Rattle.wl_expr.specs.Stamped.{plain}
+use Rattle.std.proofs.Common.{refl}
 use Rattle.wl_rules.specs.Entries as entries
 use Rattle.wl_rules.specs.Entries.{left_side}
-use Rattle.wl_rules.specs.StampedRules.{left_of, plain_rule}
-use Rattle.wl_rules.specs.Stored.{entry_at, definitions}
+use Rattle.wl_rules.specs.Stored.{entry_at}
 use Rattle.wl_eval.specs.Effects.{acted}
-use Rattle.wl_eval.specs.Eval.{number_in}
-use Rattle.wl_eval.specs.Honest.{HonestRules}
-use Rattle.wl_eval.specs.Played.{Plays, IsTaken}
 use Rattle.wl_eval.specs.Prog as prog
-use Rattle.wl_eval.specs.declared.evaluator.Evaluator.{Evaluator}
-use Rattle.wl_eval.proofs.Changing.{change_done, change_asked, change_stays, change_other, unprotected, entry_is, entry_honest, put_honest, removed_honest, cleared_honest, put_limit, limit_small, rules_after, on_ok, if_ok, has_left_plain}
-use Rattle.wl_eval.proofs.Placed.{indexed, indexed_there, changes}
+use Rattle.wl_eval.proofs.Changing.{change_stays, unprotected, on_ok}
+use Rattle.wl_eval.proofs.Placed.{indexed}
 use Rattle.wl_eval.proofs.evaluator.Evaluator.put_message.Goals as goal
 
 pub unrefused-requires : goal.unrefused-requires

@@ -1,4 +1,4 @@
-use Rattle.std.proofs.Common.{◌≡◌, true, false, sym, ap, ◌∙◌, refl, subst, Ok, true≢false}
+use Rattle.std.proofs.Common.{◌≡◌, sym, ap, ◌∙◌, refl, true≢false}
 use Rattle.wl_expr.specs.Stamped.{plain}
 use Rattle.wl_rules.specs.Entries as entries
 use Rattle.wl_rules.specs.Entries.{left_side, of_kind}
@@ -34,8 +34,8 @@ returns-then-not-found-clause-played g c =
     let left = plain c.args.left.now in
     let kind = c.args.kind in
     let found : c.in_ok-found.found ≡ has_left left_side left (of_kind kind (definitions c.args.self.now.store x).rules) =
-      if_ok _ u c.remove_rule.ensures.found ∙ has_left_plain left (of_kind kind (entry_at i m.store).rules)
-      ∙ ap (has_left left_side left) (rules_at m.store i x kind l.index h.distinct l.name ∙ ap (λ f. of_kind kind (f x).rules) (looked_same x c.args.self.now m l.plays)) in
+    if_ok _ u c.remove_rule.ensures.found ∙ has_left_plain left (of_kind kind (entry_at i m.store).rules)
+    ∙ ap (has_left left_side left) (rules_at m.store i x kind l.index h.distinct l.name ∙ ap (λ f. of_kind kind (f x).rules) (looked_same x c.args.self.now m l.plays)) in
     record {
       between = m;
       looks = l.plays;
@@ -57,14 +57,14 @@ returns-clause-played g c =
     let left = plain c.args.left.now in
     let kind = c.args.kind in
     let found : c.in_ok-found.found ≡ has_left left_side left (of_kind kind (definitions c.args.self.now.store x).rules) =
-      if_ok _ u c.remove_rule.ensures.found ∙ has_left_plain left (of_kind kind (entry_at i m.store).rules)
-      ∙ ap (has_left left_side left) (rules_at m.store i x kind l.index h.distinct l.name ∙ ap (λ f. of_kind kind (f x).rules) (looked_same x c.args.self.now m l.plays)) in
+    if_ok _ u c.remove_rule.ensures.found ∙ has_left_plain left (of_kind kind (entry_at i m.store).rules)
+    ∙ ap (has_left left_side left) (rules_at m.store i x kind l.index h.distinct l.name ∙ ap (λ f. of_kind kind (f x).rules) (looked_same x c.args.self.now m l.plays)) in
     record {
       between = m;
       looks = l.plays;
       found = sym c.if-not-found.false ∙ found;
       taken = λ q.
-        change_other (prog.remove_rule x kind left) m m.store c.remove_rule.new.self x i (entries.remove_rule left_side kind left) (entries.remove_rule left_of kind left (entry_at i m.store)) h c.requires.limits t
-        (if_true c.if-not-found.false (if_ok _ u c.remove_rule.ensures.taken)) (if_true c.if-not-found.false (if_ok _ u c.remove_rule.ensures.defines)) refl (removed_honest c.remove_rule.new.self kind left (entry_at i m.store));
+          change_other (prog.remove_rule x kind left) m m.store c.remove_rule.new.self x i (entries.remove_rule left_side kind left) (entries.remove_rule left_of kind left (entry_at i m.store)) h c.requires.limits t
+          (if_true c.if-not-found.false (if_ok _ u c.remove_rule.ensures.taken)) (if_true c.if-not-found.false (if_ok _ u c.remove_rule.ensures.defines)) refl (removed_honest c.remove_rule.new.self kind left (entry_at i m.store));
       none = λ q. absurd (true≢false q);
     }
