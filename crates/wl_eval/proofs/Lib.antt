@@ -20,6 +20,8 @@ mod Turning
 mod Evaluating
 mod Changing
 mod Recalling
+mod Holding
+mod Driving
 mod Fitting
 mod Flagging
 mod Computed

@@ -1,5 +1,5 @@
 -- What stays true of stamps while the entries change.
-use Rattle.std.proofs.Common.{◌≡◌, ℕ, ◌≤◌, List, [], ◌∷◌, get_or, Option, Some, None, refl, sym, ap, ap₂, ◌∙◌, subst, le_refl, le_trans, arith, Contains}
+use Rattle.std.proofs.Common.{◌≡◌, ◌≤◌, List, [], ◌∷◌, get_or, Option, Some, None, refl, sym, ap, ap₂, ◌∙◌, subst, le_refl, le_trans, arith, Contains}
 use Rattle.std.proofs.lemmas.List.Elements.{All-head, All-tail, All-contains, All-map, All-weaker}
 use Rattle.std.specs.List.{All}
 use Rattle.wl_expr.specs.Passed.{AtStamps, AllAtStamps}
