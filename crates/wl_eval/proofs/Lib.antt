@@ -22,6 +22,7 @@ mod Changing
 mod Recalling
 mod Holding
 mod Driving
+mod Beginning
 mod Fitting
 mod Flagging
 mod Computed
