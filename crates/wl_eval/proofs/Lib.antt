@@ -8,4 +8,21 @@ pub mod Drive
 pub mod Equations
 pub mod BaredSize
 -- For this crate's own proofs.
+mod Names
+mod Stores
+mod Keeps
+mod Playing
+mod Placed
+mod Moves
+mod Rows
+mod Values
+mod Turning
+mod Evaluating
+mod Changing
+mod Recalling
+mod Holding
+mod Driving
+mod Beginning
+mod Fitting
+mod Flagging
 mod Computed

@@ -25,6 +25,11 @@ pub mod Outcome
 pub mod Settled
 pub mod Local
 pub mod Laws
+-- What is true of an evaluator, and what its functions say.
+pub mod Honest
+pub mod Logs
+pub mod Played
+pub mod Recall
 -- Sessions that are computed.
 pub mod Cells
 pub mod WorkedCells

@@ -1,0 +1,15 @@
+use Rattle.std.proofs.Common.{sym, ap}
+use Rattle.wl_desk.specs.Desk.{Desk}
+use Rattle.wl_eval.specs.Effects.{acted}
+use Rattle.wl_eval.specs.Played.{state, trees}
+use Rattle.wl_eval.specs.Prog as prog
+use Rattle.wl_eval.specs.State.{World}
+use Rattle.wl_eval.proofs.Moves.{plays_desk}
+use Rattle.wl_eval.proofs.evaluator.Evaluator.issue.Goals as goal
+
+pub returns-clause-played : goal.returns-clause-played
+unfolding acted
+returns-clause-played g c =
+    let k = c.args.self.now in
+    plays_desk (prog.issue c.args.symbol.now c.args.tag.now (trees c.args.args.now)) k c.issue.new.self
+    (ap (λ (d : Desk). let w : World = record (state k).world { desk = d } in w) (sym c.in_ok-issue.ensures.ok))
