@@ -24,4 +24,10 @@ mod Holding
 mod Driving
 mod Fitting
 mod Flagging
+mod Shapings
+mod Tables
+mod Answering
+mod Notices
+mod Shapes
+mod Rounds
 mod Computed
