@@ -25,4 +25,10 @@ mod Driving
 mod Beginning
 mod Fitting
 mod Flagging
+mod Shapings
+mod Tables
+mod Answering
+mod Notices
+mod Shapes
+mod Rounds
 mod Computed
