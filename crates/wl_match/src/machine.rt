@@ -5,7 +5,7 @@ ghost use Rattle.wl_match.specs.declared.part.Part.{Part};
 ghost use Rattle.wl_expr.specs.Stamped.{plain};
 ghost use Rattle.wl_match.specs.Parts.{whole};
 ghost use Rattle.wl_match.specs.Plays.{Expands, Reaches, now, rest};
-ghost use Rattle.wl_match.specs.Left.{Answers, IsDead, left};
+ghost use Rattle.wl_match.specs.Left.{Answers, IsDead, Searches, left};
 ghost use Rattle.wl_ports.specs.Counted.{add_to_last};
 ghost use Rattle.wl_match.specs.Search.{leaves};
 ghost use Rattle.wl_match.specs.Trials.{Trials};
@@ -98,7 +98,8 @@ impl Walk {
 impl Machine {
     /// A search that begins.
     pub fn start(alloc: Global) -> Machine
-        ensures { (ss : List Part) (t : Tree) → left ss t result ≡ Trials (whole ss) t }
+        ensures leaves { (ss : List Part) (t : Tree) → left ss t result ≡ Trials (whole ss) t }
+        ensures searches { (ss : List Part) (t : Tree) → Searches ss t result }
     {
         Machine {
             state: State::Fresh(alloc),
@@ -137,6 +138,7 @@ impl Machine {
         work: &mut Work<L>,
     ) -> Result<Leaf, Memory>
         ensures leaf { IfOk result (λ a. Answers pattern.now (plain subject.now) self.old a self.new) }
+        ensures searches { Searches pattern.now (plain subject.now) self.old → Searches pattern.now (plain subject.now) self.new }
         ensures ticks { work.new ≡ add_to_last 1 work.old }
         ensures dead { IfErr result (λ _. IsDead self.new) }
         ensures still { IsDead self.old → IsErr result }
