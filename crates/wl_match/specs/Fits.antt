@@ -1,7 +1,6 @@
 -- What a search has bound and noted fits its pattern: each run is of a kind that the pattern may take for this purpose, a run under a
 -- head of its own stands for elements of a node that has this head, and a test was noted for a part that has one.
 use Rattle.std.specs.Prelude.{ℕ, Bool, true, false, ◌&&◌, nat_eq, nat_lt, if◌then◌else◌, List, [], ◌∷◌, length}
-use Rattle.std.specs.List.{list_all}
 use Rattle.wl_expr.specs.Tree.{Tree}
 use Rattle.wl_expr.specs.Same.{same}
 use Rattle.wl_match.specs.declared.part.Part.{Part}
@@ -19,15 +18,18 @@ abbrev pub one_or : ℕ → Kind → Kind
 one_or n k = if nat_eq n 1 then One else k
 
 abbrev pub kind_at : List Part → Tree → Taken → Kind
+kind_at ss t taken.Nothing = Slice
 kind_at ss t (taken.Tree p) = One
 kind_at ss t (taken.Slice p from n) = one_or (length (run_at ss t (taken.Slice p from n))) Slice
 kind_at ss t (taken.Picked p is) = one_or (length is) Picked
 kind_at ss t (taken.Wrapped i p is) = Wrapped
 
 abbrev pub are_places : Tree → List ℕ → Bool
-are_places t is = list_all (λ i. nat_lt i (length (elements_of t))) is
+are_places t [] = true
+are_places t (i ∷ is) = nat_lt i (length (elements_of t)) && are_places t is
 
 abbrev pub fits : List Part → Tree → Taken → Bool
+fits ss t taken.Nothing = true
 fits ss t (taken.Tree p) = true
 fits ss t (taken.Slice p from n) = true
 fits ss t (taken.Picked p is) = are_places (tree_at ss t p) is
@@ -45,7 +47,8 @@ may_lend ss t x r = lends (whole ss) One x (kind_at ss t r)
 
 abbrev pub mark_fits : List Part → Tree → Mark → Bool
 mark_fits ss t (Bound i r) = fits ss t r && may_lend ss t (of_name (name_at (part_at ss i))) r
-mark_fits ss t (Noted i r) = fits ss t r && has_test (part_at ss i) && may_lend ss t (of_test (ask_at (part_at ss i))) r
+mark_fits ss t (Noted i r) = has_test (part_at ss i) && fits ss t r && may_lend ss t (of_test (ask_at (part_at ss i))) r
 
 abbrev pub all_fit : List Part → Tree → List Mark → Bool
-all_fit ss t ms = list_all (mark_fits ss t) ms
+all_fit ss t [] = true
+all_fit ss t (m ∷ ms) = mark_fits ss t m && all_fit ss t ms

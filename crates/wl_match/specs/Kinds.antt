@@ -5,6 +5,7 @@ use Rattle.std.specs.List.{All}
 use Rattle.wl_expr.specs.Tree.{Tree}
 use Rattle.wl_expr.specs.Same.{same}
 use Rattle.wl_expr.specs.Stamped.{plain}
+use Rattle.wl_match.specs.declared.flags.Flags.{Flags}
 use Rattle.wl_match.specs.Pattern.{Ask, applies, holds, refuses, Pat, exactly, blank, named, tested, hold, optional, alternatives, repeated, except, nodes, Pats, end, also, any_optional}
 use Rattle.wl_match.specs.Trials.{Site, stretches}
 use Rattle.wl_match.specs.Runs.{elements_of}
@@ -17,7 +18,7 @@ pub data Kind : Type 0 where
   Picked : Kind
   Wrapped : Kind
 
--- what a run is for: to be bound to a name, or to be tested
+-- what a run is for: it is bound to a name, or tested
 pub data Purpose : Type 0 where
   of_name : List ℕ → Purpose
   of_test : Ask → Purpose
@@ -43,6 +44,12 @@ same_purpose _ _ = false
 abbrev pub is_it : Purpose → Kind → Purpose → Kind → Bool
 is_it y j x k = same_purpose y x && same_kind j k
 
+-- an element takes one expression; or elements side by side, or picked ones under an orderless head, or two and more as one under a
+-- flat head; where one expression stands alone, that one or none
+abbrev pub any_kind : Flags → Bool → Bool → (Kind → Bool) → Bool
+any_kind f alone stretched g =
+    g One || ((not f.orderless || alone) && g Slice) || (f.orderless && g Picked) || (stretched && g Wrapped)
+
 -- whether a pattern on a run of kind j may take a run of kind k for this purpose
 abbrev mutual
   pub lends : Pat → Kind → Purpose → Kind → Bool
@@ -61,16 +68,9 @@ abbrev mutual
   any_lends end j x k = false
   any_lends (also q qs) j x k = lends q j x k || any_lends qs j x k
 
-  -- an element takes one expression, or elements side by side, or picked ones under an orderless head, or more than one as one under
-  -- a flat head; where one expression stands alone, it or none
   pub elements_lend : Site → Bool → Pats → Purpose → Kind → Bool
   elements_lend s alone end x k = false
-  elements_lend s alone (also p ps) x k =
-      lends p One x k
-      || ((not s.flags.orderless || alone) && lends p Slice x k)
-      || (s.flags.orderless && lends p Picked x k)
-      || (stretches s p && lends p Wrapped x k)
-      || elements_lend s alone ps x k
+  elements_lend s alone (also p ps) x k = any_kind s.flags alone (stretches s p) (λ j. lends p j x k) || elements_lend s alone ps x k
 
 abbrev pub kind_of : Run → Kind
 kind_of (run.One t) = One

@@ -16,4 +16,5 @@ pub mod Means
 pub mod Plays
 pub mod Kinds
 pub mod Fits
+pub mod Serves
 pub mod Shown

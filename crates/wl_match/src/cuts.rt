@@ -62,11 +62,15 @@ fn cut_places(alloc: Global, places: &Places, from: usize, count: usize) -> Resu
     Places::of(alloc, &left[..count])
 }
 
-/// No expressions.
-fn none_of(place: &Place) -> Result<Taken, Memory>
-    ensures { IfOk result (λ r. (ss : List Part) (t : Tree) → run_at ss t r ≡ []) }
+/// So many expressions of a run of one, from one on.
+fn cut_one(run: &Taken, from: usize, count: usize) -> Result<Taken, Memory>
+    ensures { IfOk result (λ r. (ss : List Part) (t u : Tree) → run_at ss t run.now ≡ u ∷ []
+        → run_at ss t r ≡ take count (drop from (u ∷ []))) }
 {
-    Ok(Taken::Slice(place.copy()?, 0, 0))
+    if from == 0 && count != 0 {
+        return run.copy();
+    }
+    Ok(Taken::Nothing)
 }
 
 /// So many expressions of a run, from one on.
@@ -74,18 +78,9 @@ pub(crate) fn cut(alloc: Global, run: &Taken, from: usize, count: usize) -> Resu
     ensures { IfOk result (λ r. (ss : List Part) (t : Tree) → run_at ss t r ≡ take count (drop from (run_at ss t run.now))) }
 {
     match run {
-        Taken::Tree(place) => {
-            if from == 0 && count != 0 {
-                return run.copy();
-            }
-            none_of(place)
-        }
-        Taken::Wrapped(_, place, _) => {
-            if from == 0 && count != 0 {
-                return run.copy();
-            }
-            none_of(place)
-        }
+        Taken::Nothing => Ok(Taken::Nothing),
+        Taken::Tree(_) => cut_one(run, from, count),
+        Taken::Wrapped(_, _, _) => cut_one(run, from, count),
         Taken::Slice(place, start, n) => cut_slice(place, *start, *n, from, count),
         Taken::Picked(place, places) => {
             let left = cut_places(alloc, places, from, count)?;
@@ -128,12 +123,12 @@ fn selected(alloc: Global, chosen: &[u32], places: &[u32]) -> Result<Places, Mem
 }
 
 /// The same of a run of one expression.
-fn pick_one(run: &Taken, place: &Place, chosen: &[u32]) -> Result<Taken, Memory>
+fn pick_one(run: &Taken, chosen: &[u32]) -> Result<Taken, Memory>
     ensures { IfOk result (λ r. (ss : List Part) (t u : Tree) → run_at ss t run.now ≡ u ∷ []
         → run_at ss t r ≡ map (tree_among (u ∷ [])) chosen.now) }
 {
     if chosen.is_empty() {
-        return none_of(place);
+        return Ok(Taken::Nothing);
     }
     if chosen.len() == 1 && chosen[0] == 0 {
         return run.copy();
@@ -153,8 +148,14 @@ pub(crate) fn pick(
         ≡ map (tree_among (run_at pattern.now (plain subject.now) run.now)) chosen.now) }
 {
     match run {
-        Taken::Tree(place) => pick_one(run, place, chosen),
-        Taken::Wrapped(_, place, _) => pick_one(run, place, chosen),
+        Taken::Nothing => {
+            if chosen.is_empty() {
+                return Ok(Taken::Nothing);
+            }
+            Err(Memory)
+        }
+        Taken::Tree(_) => pick_one(run, chosen),
+        Taken::Wrapped(_, _, _) => pick_one(run, chosen),
         Taken::Slice(place, start, _) => {
             let all = shifted(alloc, chosen, *start, length(pattern, subject, run))?;
             Ok(Taken::Picked(place.copy()?, all))
@@ -225,6 +226,7 @@ pub(crate) fn wrapped(
         return run.copy();
     }
     match run {
+        Taken::Nothing => run.copy(),
         Taken::Tree(_) => run.copy(),
         Taken::Wrapped(_, _, _) => run.copy(),
         Taken::Slice(place, start, _) => {
@@ -232,5 +234,26 @@ pub(crate) fn wrapped(
             Ok(Taken::Wrapped(part, place.copy()?, places))
         }
         Taken::Picked(place, places) => { Ok(Taken::Wrapped(part, place.copy()?, places.copy()?)) }
+    }
+}
+
+/// A run of one as the expression at a place, where it stands at one.
+pub(crate) fn alone(run: &Taken) -> Result<Taken, Memory>
+    ensures { IfOk result (λ r. (ss : List Part) (t u : Tree) → run_at ss t run.now ≡ u ∷ [] → run_at ss t r ≡ u ∷ []) }
+{
+    match run {
+        Taken::Slice(place, from, _) => {
+            let step = short(sum(*from, 1)?)?;
+            Ok(Taken::Tree(place.below(step)?))
+        }
+        Taken::Picked(place, places) => {
+            let places = places.as_slice();
+            if places.len() == 0 {
+                return Ok(Taken::Nothing);
+            }
+            let step = short(sum(places[0] as usize, 1)?)?;
+            Ok(Taken::Tree(place.below(step)?))
+        }
+        _ => run.copy(),
     }
 }

@@ -127,6 +127,7 @@ pub(crate) fn lend<'m, 'a>(pattern: &'a Pattern, subject: &'a Expr, run: &'m Tak
     ensures { trees_of result ≡ run_at pattern.now (plain subject.now) run.now }
 {
     match run {
+        Taken::Nothing => Lent::These(Items::Slice(&[])),
         Taken::Tree(place) => {
             let t = tree_at(pattern, subject, place);
             Lent::These(Items::Slice(std::slice::from_ref(t)))

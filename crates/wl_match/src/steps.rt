@@ -15,7 +15,7 @@ ghost use Rattle.wl_match.specs.Runs.{child, run_at, trees_of};
 ghost use Rattle.wl_match.specs.Trials.{allows};
 ghost use Rattle.wl_match.specs.Trials as trials;
 
-use crate::cuts::{cut, length, short};
+use crate::cuts::{alone, cut, length, short};
 use crate::flags::Flags;
 use crate::leaf::Step;
 use crate::lent::{Items, Lent, args_of, lend, tree_at};
@@ -206,8 +206,11 @@ impl Walk {
         }
         let is_headed = have(&lend(pattern, subject, run), head);
         if stands_alone(pattern, flags, parts, is_headed) {
-            self.put(Goal::Elements(i, 0, run.copy()?))?;
+            self.put(Goal::Elements(i, 0, alone(run)?))?;
             return Ok(Step::Went);
+        }
+        if flags.flat && !is_headed {
+            return Ok(Step::Failed);
         }
         let step = self.open(pattern, subject, i, hp, run)?;
         Ok(step)
@@ -226,6 +229,7 @@ impl Walk {
             → Plays pattern.now (plain subject.now) (opening pattern.now (plain subject.now) self.old i hp u) self.old s self.new) }
     {
         match run {
+            Taken::Nothing => Ok(Step::Failed),
             Taken::Tree(place) => {
                 let step = self.open_at(pattern, subject, i, hp, place)?;
                 Ok(step)

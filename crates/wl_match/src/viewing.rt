@@ -25,6 +25,7 @@ fn shown<'m, 'a>(pattern: &'a Pattern, subject: &'a Expr, run: &'m Taken) -> Run
         → runs.shown result ≡ run_at pattern.now (plain subject.now) run.now }
 {
     match run {
+        Taken::Nothing => Run::Slice(&[]),
         Taken::Tree(place) => Run::One(tree_at(pattern, subject, place)),
         Taken::Slice(place, from, count) => {
             let args = some_of(args_of(tree_at(pattern, subject, place)), *from, *count);
