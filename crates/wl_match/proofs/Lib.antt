@@ -1,3 +1,4 @@
+pub mod Fitting
 pub mod Grafts
 pub mod FormsLemmas
 pub mod HeadsLemmas

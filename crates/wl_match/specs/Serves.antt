@@ -13,9 +13,10 @@ use Rattle.wl_match.specs.declared.taken.Mark.TheVariants.{Bound, Noted}
 use Rattle.wl_match.specs.declared.walk.Walk.{Walk}
 use Rattle.wl_match.specs.Pattern.{Pat, Pats, any_optional, stretchable}
 use Rattle.wl_match.specs.Parts.{pat, whole}
+use Rattle.wl_match.specs.Trials.{stretches}
 use Rattle.wl_match.specs.Runs.{child, part_at, tree_at}
 use Rattle.wl_match.specs.Means.{flags_at, from_child, head_at, site_at}
-use Rattle.wl_match.specs.Kinds.{Kind, One, Purpose, any_lends, elements_lend, lends}
+use Rattle.wl_match.specs.Kinds.{Kind, One, Purpose, any_kind, any_lends, elements_lend, lends}
 use Rattle.wl_match.specs.Fits.{all_fit, are_places, fits, kind_at, mark_fits}
 
 -- what a pattern on a run of this kind takes, the whole pattern may take
@@ -84,3 +85,27 @@ pub record Fits (ss : List Part) (t : Tree) (w : Walk) : Type 0 where
 -- a step at a goal that fits keeps this
 abbrev pub Steady : List Part → Tree → Goal → Walk → Walk → Type 0
 Steady ss t g old new = GoalFits ss t g → Fits ss t old → Fits ss t new
+
+-- ---- parts of runs
+
+-- a run that is one expression
+abbrev pub is_single : Taken → Bool
+is_single (taken.Tree p) = true
+is_single (taken.Wrapped i p is) = true
+is_single _ = false
+
+-- some of a run
+pub record Narrows (old new : Taken) : Type 0 where
+  pub fits : (ss : List Part) (t : Tree) → IsTrue (bare_fits ss t old) → IsTrue (bare_fits ss t new)
+  pub left : (ss : List Part) (t : Tree) (i : ℕ) → IsTrue (left_fits ss t i old) → IsTrue (left_fits ss t i new)
+
+-- expressions that were picked from a run
+abbrev pub IsPicked : List Part → Tree → Taken → Taken → Type 0
+IsPicked ss t old new = (i : ℕ) → IsTrue (flags_at (part_at ss i)).orderless → IsTrue (left_fits ss t i old) → IsTrue (element_fits ss t i new)
+
+-- a run for the pattern q, an element of part i
+abbrev pub ElementServes : List Part → Tree → ℕ → ℕ → Taken → Type 0
+ElementServes ss t i q r =
+    IsTrue (may_stretch ss q r && fits ss t r)
+    × ((x : Purpose) (k : Kind) → IsTrue (lends (pat ss q) (kind_at ss t r) x k)
+        → IsTrue (any_kind (flags_at (part_at ss i)) (stands_alone ss i) (stretches (site_at ss i) (pat ss q)) (λ j. lends (pat ss q) j x k)))

@@ -1,12 +1,16 @@
 //! Parts of runs.
-ghost use Rattle.std.specs.Prelude.{ℕ, ◌≡◌, ◌++◌, ◌∷◌, [], true, take, drop, map, List, IfOk};
+ghost use Rattle.std.specs.Prelude.{ℕ, ◌≡◌, ◌++◌, ◌∷◌, [], true, take, drop, map, List, IfOk, IsTrue};
 ghost use Rattle.wl_expr.specs.Tree.{Tree};
 ghost use Rattle.wl_match.specs.declared.part.Part.{Part};
 ghost use Rattle.std.specs.Prelude as list;
 ghost use Rattle.wl_expr.specs.Stamped.{plain};
-ghost use Rattle.wl_match.specs.Means.{tree_among};
+ghost use Rattle.wl_match.specs.declared.taken.Taken.TheVariants.{Slice};
+ghost use Rattle.wl_match.specs.Fits.{are_places};
+ghost use Rattle.wl_match.specs.Means.{site_at, tree_among};
+ghost use Rattle.wl_match.specs.Parts.{pat};
 ghost use Rattle.wl_match.specs.Runs.{elements_of, kept_at, picked, run_at, tree_at};
-ghost use Rattle.wl_match.specs.Trials.{shaped};
+ghost use Rattle.wl_match.specs.Serves.{ElementServes, IsPicked, Narrows, element_fits, is_bare, is_single, left_fits, stands_alone};
+ghost use Rattle.wl_match.specs.Trials.{shaped, stretches};
 
 use crate::lent::lend;
 use crate::looks::sum;
@@ -41,8 +45,9 @@ fn cut_slice(
     from: usize,
     count: usize,
 ) -> Result<Taken, Memory>
-    ensures { IfOk result (λ r. (ss : List Part) (t : Tree)
+    ensures is { IfOk result (λ r. (ss : List Part) (t : Tree)
         → run_at ss t r ≡ take count (drop from (take n (drop start (elements_of (tree_at ss t place.now)))))) }
+    ensures narrows { IfOk result (λ r. (m k : ℕ) → Narrows (Slice place.now m k) r) }
 {
     let from = from.min(n);
     let at = match start.checked_add(from) {
@@ -64,8 +69,9 @@ fn cut_places(alloc: Global, places: &Places, from: usize, count: usize) -> Resu
 
 /// So many expressions of a run of one, from one on.
 fn cut_one(run: &Taken, from: usize, count: usize) -> Result<Taken, Memory>
-    ensures { IfOk result (λ r. (ss : List Part) (t u : Tree) → run_at ss t run.now ≡ u ∷ []
+    ensures is { IfOk result (λ r. (ss : List Part) (t u : Tree) → run_at ss t run.now ≡ u ∷ []
         → run_at ss t r ≡ take count (drop from (u ∷ []))) }
+    ensures narrows { IfOk result (λ r. IsTrue (is_single run.now) → Narrows run.now r) }
 {
     if from == 0 && count != 0 {
         return run.copy();
@@ -75,7 +81,8 @@ fn cut_one(run: &Taken, from: usize, count: usize) -> Result<Taken, Memory>
 
 /// So many expressions of a run, from one on.
 pub(crate) fn cut(alloc: Global, run: &Taken, from: usize, count: usize) -> Result<Taken, Memory>
-    ensures { IfOk result (λ r. (ss : List Part) (t : Tree) → run_at ss t r ≡ take count (drop from (run_at ss t run.now))) }
+    ensures is { IfOk result (λ r. (ss : List Part) (t : Tree) → run_at ss t r ≡ take count (drop from (run_at ss t run.now))) }
+    ensures narrows { IfOk result (λ r. Narrows run.now r) }
 {
     match run {
         Taken::Nothing => Ok(Taken::Nothing),
@@ -91,8 +98,10 @@ pub(crate) fn cut(alloc: Global, run: &Taken, from: usize, count: usize) -> Resu
 
 /// These places of a run that begins at a place of its node, as places there.
 fn shifted(alloc: Global, chosen: &[u32], start: usize, n: usize) -> Result<Places, Memory>
-    ensures { IfOk result (λ p. (u : Tree) (m : ℕ) → n ≡ list.length (take m (drop start (elements_of u)))
+    ensures is { IfOk result (λ p. (u : Tree) (m : ℕ) → n ≡ list.length (take m (drop start (elements_of u)))
         → picked u p ≡ map (tree_among (take m (drop start (elements_of u)))) chosen.now) }
+    ensures places { IfOk result (λ p. (u : Tree) (m : ℕ) → n ≡ list.length (take m (drop start (elements_of u)))
+        → IsTrue (are_places u p)) }
 {
     let mut all = Places::new(alloc);
     for place in chosen {
@@ -110,7 +119,8 @@ fn shifted(alloc: Global, chosen: &[u32], start: usize, n: usize) -> Result<Plac
 
 /// The places that stand at these places.
 fn selected(alloc: Global, chosen: &[u32], places: &[u32]) -> Result<Places, Memory>
-    ensures { IfOk result (λ p. (u : Tree) → picked u p ≡ map (tree_among (picked u places.now)) chosen.now) }
+    ensures is { IfOk result (λ p. (u : Tree) → picked u p ≡ map (tree_among (picked u places.now)) chosen.now) }
+    ensures places { IfOk result (λ p. (u : Tree) → IsTrue (are_places u places.now) → IsTrue (are_places u p)) }
 {
     let mut all = Places::new(alloc);
     for at in chosen {
@@ -124,8 +134,9 @@ fn selected(alloc: Global, chosen: &[u32], places: &[u32]) -> Result<Places, Mem
 
 /// The same of a run of one expression.
 fn pick_one(run: &Taken, chosen: &[u32]) -> Result<Taken, Memory>
-    ensures { IfOk result (λ r. (ss : List Part) (t u : Tree) → run_at ss t run.now ≡ u ∷ []
+    ensures is { IfOk result (λ r. (ss : List Part) (t u : Tree) → run_at ss t run.now ≡ u ∷ []
         → run_at ss t r ≡ map (tree_among (u ∷ [])) chosen.now) }
+    ensures picked { IfOk result (λ r. (ss : List Part) (t : Tree) → IsTrue (is_single run.now) → IsPicked ss t run.now r) }
 {
     if chosen.is_empty() {
         return Ok(Taken::Nothing);
@@ -144,8 +155,9 @@ pub(crate) fn pick(
     run: &Taken,
     chosen: &[u32],
 ) -> Result<Taken, Memory>
-    ensures { IfOk result (λ r. run_at pattern.now (plain subject.now) r
+    ensures is { IfOk result (λ r. run_at pattern.now (plain subject.now) r
         ≡ map (tree_among (run_at pattern.now (plain subject.now) run.now)) chosen.now) }
+    ensures picked { IfOk result (λ r. IsPicked pattern.now (plain subject.now) run.now r) }
 {
     match run {
         Taken::Nothing => {
@@ -190,8 +202,9 @@ pub(crate) fn others(
     places: &Places,
     from: usize,
 ) -> Result<Taken, Memory>
-    ensures { IfOk result (λ r. run_at pattern.now (plain subject.now) r
+    ensures is { IfOk result (λ r. run_at pattern.now (plain subject.now) r
         ≡ map (tree_among (run_at pattern.now (plain subject.now) run.now)) places.now ++ drop from (run_at pattern.now (plain subject.now) run.now)) }
+    ensures picked { IfOk result (λ r. IsPicked pattern.now (plain subject.now) run.now r) }
 {
     let all = with_others(places, from, length(pattern, subject, run))?;
     let taken = pick(alloc, pattern, subject, run, all.as_slice())?;
@@ -200,8 +213,10 @@ pub(crate) fn others(
 
 /// The places of the elements of a run in its node.
 fn places_of(alloc: Global, start: usize, n: usize) -> Result<Places, Memory>
-    ensures { IfOk result (λ p. (u : Tree) (m : ℕ) → n ≡ list.length (take m (drop start (elements_of u)))
+    ensures is { IfOk result (λ p. (u : Tree) (m : ℕ) → n ≡ list.length (take m (drop start (elements_of u)))
         → picked u p ≡ take m (drop start (elements_of u))) }
+    ensures places { IfOk result (λ p. (u : Tree) (m : ℕ) → n ≡ list.length (take m (drop start (elements_of u)))
+        → IsTrue (are_places u p)) }
 {
     let mut all = Places::new(alloc);
     for at in 0..n {
@@ -218,8 +233,10 @@ pub(crate) fn wrapped(
     part: usize,
     run: &Taken,
 ) -> Result<Taken, Memory>
-    ensures { IfOk result (λ r. run_at pattern.now (plain subject.now) r
+    ensures is { IfOk result (λ r. run_at pattern.now (plain subject.now) r
         ≡ shaped true (kept_at pattern.now (plain subject.now) part) (run_at pattern.now (plain subject.now) run.now)) }
+    ensures serves { IfOk result (λ r. (q : ℕ) → IsTrue (stretches (site_at pattern.now part) (pat pattern.now q))
+        → IsTrue (element_fits pattern.now (plain subject.now) part run.now) → ElementServes pattern.now (plain subject.now) part q r) }
 {
     let n = length(pattern, subject, run);
     if n < 2 {
@@ -239,9 +256,14 @@ pub(crate) fn wrapped(
 
 /// A run of one as the expression at a place, where it stands at one.
 pub(crate) fn alone(run: &Taken) -> Result<Taken, Memory>
-    ensures { IfOk result (λ r. (ss : List Part) (t u : Tree) → run_at ss t run.now ≡ u ∷ [] → run_at ss t r ≡ u ∷ []) }
+    ensures is { IfOk result (λ r. (ss : List Part) (t u : Tree) → run_at ss t run.now ≡ u ∷ [] → run_at ss t r ≡ u ∷ []) }
+    ensures fits { IfOk result (λ r. (ss : List Part) (t : Tree) (i : ℕ) → IsTrue (is_bare run.now) → IsTrue (stands_alone ss i)
+        → IsTrue (left_fits ss t i r)) }
 {
     match run {
+        Taken::Nothing => Ok(Taken::Nothing),
+        Taken::Tree(_) => run.copy(),
+        Taken::Wrapped(_, _, _) => run.copy(),
         Taken::Slice(place, from, _) => {
             let step = short(sum(*from, 1)?)?;
             Ok(Taken::Tree(place.below(step)?))
@@ -254,6 +276,5 @@ pub(crate) fn alone(run: &Taken) -> Result<Taken, Memory>
             let step = short(sum(places[0] as usize, 1)?)?;
             Ok(Taken::Tree(place.below(step)?))
         }
-        _ => run.copy(),
     }
 }
