@@ -1,5 +1,5 @@
 -- Runs that fit.
-use Rattle.std.proofs.Common.{◌≡◌, ◌<◌, ◌≤◌, ◌+◌, ◌-◌, ◌&&◌, ◌||◌, ℕ, zero, suc, min, Bool, true, false, not, List, [], ◌∷◌, ◌++◌, length, get_or, map, take, drop, Option, Some, None, refl, ap, sym, subst, ◌∙◌, arith, inl, inr}
+use Rattle.std.proofs.Common.{◌≡◌, ◌<◌, ◌≤◌, ◌+◌, ◌-◌, ◌&&◌, ◌||◌, ℕ, zero, suc, min, Bool, true, false, not, List, [], ◌∷◌, ◌++◌, length, get_or, map, take, drop, if◌then◌else◌, ◌⊎◌, Option, Some, None, refl, ap, sym, subst, ◌∙◌, arith, inl, inr}
 use Rattle.std.specs.Prelude.{IsTrue, nat_eq, nat_lt}
 use Rattle.std.proofs.lemmas.Bool.{and_from, and_parts, cases_Bool, eq-eqb, lt-ltb, ltb-true, or_cases, or_left, or_right}
 use Rattle.std.proofs.lemmas.List.{length-drop, length-map, length-take}
@@ -7,12 +7,13 @@ use Rattle.wl_expr.specs.Tree.{Tree}
 use Rattle.wl_expr.specs.Same.{same, same_decides}
 use Rattle.wl_match.specs.declared.flags.Flags.{Flags}
 use Rattle.wl_match.specs.declared.part.Part.{Part}
+use Rattle.wl_match.specs.declared.part.Part.TheVariants as part
 use Rattle.wl_match.specs.declared.taken.Place.{Place}
 use Rattle.wl_match.specs.declared.taken.Taken.{Taken}
 use Rattle.wl_match.specs.declared.taken.Taken.TheVariants.{Nothing, Tree as At, Slice, Picked, Wrapped}
 use Rattle.wl_match.specs.Pattern.{stretchable}
 use Rattle.wl_match.specs.Parts.{pat}
-use Rattle.wl_match.specs.Runs.{child, element_at, elements_of, kept_at, part_at, picked, run_at, tree_at}
+use Rattle.wl_match.specs.Runs.{child, element_at, elements_of, keeps, kept_at, or_tree, part_at, picked, run_at, tree_at}
 use Rattle.wl_match.specs.Means.{flags_at, head_at, site_at}
 use Rattle.wl_match.specs.Trials.{stretches}
 use Rattle.wl_match.specs.Kinds.{Kind, One, Purpose, any_kind, lends}
@@ -95,3 +96,106 @@ narrows_picked r p p' is js c f g e h = subst (λ z. Narrows z (Picked p' js)) (
     all true true false x y z = cc
     all true false d x y z = cc
     all false b d x y z = cc
+
+-- ---- a run for an element
+
+pub stretched_head : (t : Tree) (s : Part) (f : Tree → Bool) → ((flags_at s).flat && f (head_at s)) ≡ true → or_tree t (keeps s) ≡ head_at s
+stretched_head t (part.Nodes g h hp qs) f e = refl
+stretched_head t (part.Exactly x) f e = cc
+stretched_head t (part.Blank c h) f e = cc
+stretched_head t (part.Named x q) f e = cc
+stretched_head t (part.Applies x q) f e = cc
+stretched_head t (part.Holds x q) f e = cc
+stretched_head t (part.Hold q) f e = cc
+stretched_head t (part.Optional d q) f e = cc
+stretched_head t (part.Alternatives qs) f e = cc
+stretched_head t (part.Repeated c q) f e = cc
+stretched_head t (part.Except x q) f e = cc
+
+abbrev four : Bool → Bool → Bool → Bool → Bool
+four a b c d = a || b || c || d
+
+first : (a b c d : Bool) → a ≡ true → four a b c d ≡ true
+first a b c d h = or_left (a || b || c) d (or_left (a || b) c (or_left a b h))
+
+second : (a b c d : Bool) → b ≡ true → four a b c d ≡ true
+second a b c d h = or_left (a || b || c) d (or_left (a || b) c (or_right a b h))
+
+third : (a b c d : Bool) → c ≡ true → four a b c d ≡ true
+third a b c d h = or_left (a || b || c) d (or_right (a || b) c h)
+
+last : (a b c d : Bool) → d ≡ true → four a b c d ≡ true
+last a b c d h = or_right (a || b || c) d h
+
+one_split : (b : Bool) (j : Kind) (g : Kind → Bool) → g (if b then One else j) ≡ true → (g One ≡ true) ⊎ (g j ≡ true)
+one_split true j g h = inl h
+one_split false j g h = inr h
+
+pub any_one : (f : Flags) (a b : Bool) (g : Kind → Bool) → g One ≡ true → any_kind f a b g ≡ true
+any_one f a b g h = first (g One) ((not f.orderless || a) && g kind.Slice) (f.orderless && g kind.Picked) (b && g kind.Wrapped) h
+
+any_slice : (f : Flags) (a b : Bool) (g : Kind → Bool) → (not f.orderless || a) ≡ true → g kind.Slice ≡ true → any_kind f a b g ≡ true
+any_slice f a b g o h = second (g One) ((not f.orderless || a) && g kind.Slice) (f.orderless && g kind.Picked) (b && g kind.Wrapped) (and_from (not f.orderless || a) (g kind.Slice) o h)
+
+any_picked : (f : Flags) (a b : Bool) (g : Kind → Bool) → f.orderless ≡ true → g kind.Picked ≡ true → any_kind f a b g ≡ true
+any_picked f a b g o h = third (g One) ((not f.orderless || a) && g kind.Slice) (f.orderless && g kind.Picked) (b && g kind.Wrapped) (and_from f.orderless (g kind.Picked) o h)
+
+any_wrapped : (f : Flags) (a b : Bool) (g : Kind → Bool) → b ≡ true → g kind.Wrapped ≡ true → any_kind f a b g ≡ true
+any_wrapped f a b g o h = last (g One) ((not f.orderless || a) && g kind.Slice) (f.orderless && g kind.Picked) (b && g kind.Wrapped) (and_from b (g kind.Wrapped) o h)
+
+pub element_serves : (ss : List Part) (t : Tree) (i q : ℕ) (r : Taken) → element_fits ss t i r ≡ true → ElementServes ss t i q r
+element_serves ss t i q Nothing h = (refl, λ x k e. any_slice (flags_at (part_at ss i)) (stands_alone ss i) (stretches (site_at ss i) (pat ss q)) (λ j. lends (pat ss q) j x k) (or_right (not (flags_at (part_at ss i)).orderless) (stands_alone ss i) h) e)
+element_serves ss t i q (At p) h = (refl, λ x k e. any_one (flags_at (part_at ss i)) (stands_alone ss i) (stretches (site_at ss i) (pat ss q)) (λ j. lends (pat ss q) j x k) e)
+element_serves ss t i q (Slice p f n) h =
+    let o = and_parts (not (flags_at (part_at ss i)).orderless) (is_headed ss t i p) h in (
+      refl,
+      λ x k e. elim (one_split (nat_eq (length (run_at ss t (Slice p f n))) 1) kind.Slice (λ j. lends (pat ss q) j x k) e) [
+        | inl one ↦ any_one (flags_at (part_at ss i)) (stands_alone ss i) (stretches (site_at ss i) (pat ss q)) (λ j. lends (pat ss q) j x k) one
+        | inr more ↦ any_slice (flags_at (part_at ss i)) (stands_alone ss i) (stretches (site_at ss i) (pat ss q)) (λ j. lends (pat ss q) j x k) (or_left (not (flags_at (part_at ss i)).orderless) (stands_alone ss i) o.0) more
+      ],
+    )
+element_serves ss t i q (Picked p is) h =
+    let o = and_parts ((flags_at (part_at ss i)).orderless && is_headed ss t i p) (are_places (tree_at ss t p) is) h in
+    let l = and_parts (flags_at (part_at ss i)).orderless (is_headed ss t i p) o.0 in (
+      o.1,
+      λ x k e. elim (one_split (nat_eq (length is) 1) kind.Picked (λ j. lends (pat ss q) j x k) e) [
+        | inl one ↦ any_one (flags_at (part_at ss i)) (stands_alone ss i) (stretches (site_at ss i) (pat ss q)) (λ j. lends (pat ss q) j x k) one
+        | inr more ↦ any_picked (flags_at (part_at ss i)) (stands_alone ss i) (stretches (site_at ss i) (pat ss q)) (λ j. lends (pat ss q) j x k) l.0 more
+      ],
+    )
+element_serves ss t i q (Wrapped j p is) h = cc
+
+pub element_copied : (ss : List Part) (t : Tree) (i q : ℕ) (r r' : Taken) → r' ≡ r → element_fits ss t i r ≡ true → ElementServes ss t i q r'
+element_copied ss t i q r r' e h = element_serves ss t i q r' (ap (element_fits ss t i) e ∙ h)
+
+wrapped_serves : (ss : List Part) (t : Tree) (i q : ℕ) (p : Place) (is : List ℕ) → stretches (site_at ss i) (pat ss q) ≡ true → is_headed ss t i p ≡ true → 1 < length is → are_places (tree_at ss t p) is ≡ true → ElementServes ss t i q (Wrapped i p is)
+wrapped_serves ss t i q p is s h l a =
+    let f = and_parts (flags_at (part_at ss i)).flat (stretchable (head_at (part_at ss i)) (pat ss q)) s in
+    let head : same (head_at (part_at ss i)) (child 0 (tree_at ss t p)) ≡ true = ap (λ z. not z || same (head_at (part_at ss i)) (child 0 (tree_at ss t p))) (sym f.0) ∙ h in
+    let kept : same (kept_at ss t i) (child 0 (tree_at ss t p)) ≡ true = ap (λ z. same z (child 0 (tree_at ss t p))) (stretched_head t (part_at ss i) (λ g. stretchable g (pat ss q)) s) ∙ head in (
+      and_from (stretchable (head_at (part_at ss i)) (pat ss q)) (fits ss t (Wrapped i p is)) f.1
+      (and_from (same (kept_at ss t i) (child 0 (tree_at ss t p)) && nat_lt 1 (length is)) (are_places (tree_at ss t p) is)
+      (and_from (same (kept_at ss t i) (child 0 (tree_at ss t p))) (nat_lt 1 (length is)) kept (lt-ltb 1 (length is) l)) a),
+      λ x k e. any_wrapped (flags_at (part_at ss i)) (stands_alone ss i) (stretches (site_at ss i) (pat ss q)) (λ j. lends (pat ss q) j x k) s e,
+    )
+
+pub slice_wrapped : (ss : List Part) (t : Tree) (i q n : ℕ) (r : Taken) (p p' : Place) (f m : ℕ) (is : List ℕ) → r ≡ Slice p f m → p' ≡ p → n ≡ length (run_at ss t r) → 2 ≤ n
+    → ((u : Tree) (c : ℕ) → n ≡ length (take c (drop f (elements_of u))) → picked u is ≡ take c (drop f (elements_of u)))
+    → ((u : Tree) (c : ℕ) → n ≡ length (take c (drop f (elements_of u))) → are_places u is ≡ true)
+    → stretches (site_at ss i) (pat ss q) ≡ true → element_fits ss t i r ≡ true → ElementServes ss t i q (Wrapped i p' is)
+slice_wrapped ss t i q n r p p' f m is e g l two a b s h =
+    let u = tree_at ss t p in
+    let k : n ≡ length (take m (drop f (elements_of u))) = l ∙ ap (λ z. length (run_at ss t z)) e in
+    let o = and_parts (not (flags_at (part_at ss i)).orderless) (is_headed ss t i p) (sym (ap (element_fits ss t i) e) ∙ h) in
+    let long : 1 < length is = omega (arith, sym (length-map is (element_at u)) ∙ ap length (a u m k)) in
+    wrapped_serves ss t i q p' is s (ap (is_headed ss t i) g ∙ o.1) long (ap (λ z. are_places (tree_at ss t z) is) g ∙ b u m k)
+
+pub picked_wrapped : (ss : List Part) (t : Tree) (i q n : ℕ) (r : Taken) (p p' : Place) (is is' : List ℕ) → r ≡ Picked p is → p' ≡ p → is' ≡ is → n ≡ length (run_at ss t r) → 2 ≤ n
+    → stretches (site_at ss i) (pat ss q) ≡ true → element_fits ss t i r ≡ true → ElementServes ss t i q (Wrapped i p' is')
+picked_wrapped ss t i q n r p p' is is' e g x l two s h =
+    let u = tree_at ss t p in
+    let k : n ≡ length (picked u is) = l ∙ ap (λ z. length (run_at ss t z)) e in
+    let o = and_parts ((flags_at (part_at ss i)).orderless && is_headed ss t i p) (are_places u is) (sym (ap (element_fits ss t i) e) ∙ h) in
+    let d = and_parts (flags_at (part_at ss i)).orderless (is_headed ss t i p) o.0 in
+    let long : 1 < length is' = omega (arith, length-map is (element_at u), ap length x) in
+    wrapped_serves ss t i q p' is' s (ap (is_headed ss t i) g ∙ d.1) long ((λ v. are_places (tree_at ss t (g v)) (x v)) ∙ o.1)

@@ -1,4 +1,5 @@
 pub mod Fitting
+pub mod Keeping
 pub mod Grafts
 pub mod FormsLemmas
 pub mod HeadsLemmas

@@ -29,6 +29,7 @@ use Rattle.wl_match.specs.Runs.{child, element_at, elements_of, keeps, kept_at, 
 use Rattle.wl_match.specs.Means.{IsPart, children, conts, flags_at, from_child, goal_means, has_later, head_at, inside, lengths_on, name_at, picks_on, site_at, taking, tree_among}
 use Rattle.wl_match.specs.Plays.{Goes, Keeps, Plays, Puts, Turns, expanding, goals_of, noding, now, opened, opening, rest, skipping, taken_before, taken_by, trail_of}
 use Rattle.wl_match.proofs.Arms.{plays_as, plays_fail, plays_kept, plays_put, puts_two}
+use Rattle.wl_match.proofs.Fitting.{stretched_head}
 use Rattle.wl_match.proofs.Subjects.{follow_append, trees_of}
 
 -- ---- walks
@@ -62,19 +63,6 @@ turned ss t i next q left r xs old mid new p e p' =
       now_is = (λ v. conts ss t (b.goals v) (b.trail ss t v)) ∙ ap (λ z. trials (pat ss q) z (λ d. elements (site_at ss i) (next + 1) (from_child ss i next) (run_at ss t left) k d) (trail_of ss t old)) e;
       rest_is = b.rest_is ss t;
     }
-
-stretched_head : (t : Tree) (s : Part) (f : Tree → Bool) → ((flags_at s).flat && f (head_at s)) ≡ true → or_tree t (keeps s) ≡ head_at s
-stretched_head t (part.Nodes g h hp qs) f e = refl
-stretched_head t (part.Exactly x) f e = cc
-stretched_head t (part.Blank c h) f e = cc
-stretched_head t (part.Named x q) f e = cc
-stretched_head t (part.Applies x q) f e = cc
-stretched_head t (part.Holds x q) f e = cc
-stretched_head t (part.Hold q) f e = cc
-stretched_head t (part.Optional d q) f e = cc
-stretched_head t (part.Alternatives qs) f e = cc
-stretched_head t (part.Repeated c q) f e = cc
-stretched_head t (part.Except x q) f e = cc
 
 pub stretch_is : (ss : List Part) (t : Tree) (i q : ℕ) (b : Bool) (xs ys : List Tree) → b ≡ stretches (site_at ss i) (pat ss q) → b ≡ true → ys ≡ shaped true (kept_at ss t i) xs → ys ≡ shaped (stretches (site_at ss i) (pat ss q)) (head_at (part_at ss i)) xs
 stretch_is ss t i q b xs ys e f h = h ∙ (λ v. shaped ((sym f ∙ e) v) (stretched_head t (part_at ss i) (λ g. stretchable g (pat ss q)) (sym e ∙ f) v) xs)

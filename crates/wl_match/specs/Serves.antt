@@ -3,6 +3,7 @@ use Rattle.std.specs.Prelude.{ℕ, Bool, true, false, not, ◌&&◌, ◌||◌, I
 use Rattle.std.specs.List.{All}
 use Rattle.wl_expr.specs.Tree.{Tree}
 use Rattle.wl_expr.specs.Same.{same}
+use Rattle.wl_expr.specs.Words.{head_of}
 use Rattle.wl_match.specs.declared.part.Part.{Part}
 use Rattle.wl_match.specs.declared.taken.Place.{Place}
 use Rattle.wl_match.specs.declared.taken.Taken.{Taken}
@@ -74,13 +75,21 @@ GoalFits ss t (Members i from r) = IsTrue (bare_fits ss t r) × EachServes ss (f
 GoalFits ss t (Turn i r) = IsTrue (bare_fits ss t r) × Serves ss (pat ss i) One
 GoalFits ss t (Elements i j r) = ElementsFit ss t i j r
 GoalFits ss t (Lengths i j r low n) = ElementsFit ss t i j r
-GoalFits ss t (Pick i j r m at chosen skipped) = ElementsFit ss t i j r
+GoalFits ss t (Pick i j r m at chosen skipped) = IsTrue (flags_at (part_at ss i)).orderless × ElementsFit ss t i j r
 GoalFits ss t (Bind i r) = IsTrue (mark_fits ss t (Bound i r))
 GoalFits ss t (Note i r) = IsTrue (mark_fits ss t (Noted i r))
 
 pub record Fits (ss : List Part) (t : Tree) (w : Walk) : Type 0 where
   pub cells : All (λ c. GoalFits ss t c.goal) w.stack.cells.items
   pub trail : IsTrue (all_fit ss t w.trail.items)
+
+-- the head and the elements of a node that part i is
+abbrev pub NodeServes : List Part → ℕ → ℕ → Type 0
+NodeServes ss i hp = Serves ss (pat ss hp) One × ElementsServe ss i (from_child ss i 0)
+
+-- where elements of part i may stand as one expression, the tree has the head of the part
+abbrev pub is_like : List Part → ℕ → Tree → Bool
+is_like ss i u = not (flags_at (part_at ss i)).flat || same (head_at (part_at ss i)) (head_of u)
 
 -- a step at a goal that fits keeps this
 abbrev pub Steady : List Part → Tree → Goal → Walk → Walk → Type 0
