@@ -23,7 +23,7 @@ use Rattle.wl_match.specs.declared.taken.Mark.{Mark}
 use Rattle.wl_match.specs.declared.taken.Mark.TheVariants.{Bound, Noted}
 use Rattle.wl_match.specs.declared.walk.Walk.{Walk}
 use Rattle.wl_match.specs.Pattern.{Count, Ask, applies, holds, refuses, Pat, Pats, exactly, blank, named, tested, hold, optional, alternatives, repeated, except, nodes, end, also, any_optional, name_in, stretchable}
-use Rattle.wl_match.specs.Trials.{name_of, stretches}
+use Rattle.wl_match.specs.Trials.{all_have, name_of, stretches}
 use Rattle.wl_match.specs.Parts.{inner_or_blank, pat, pat_of, pats_of, whole}
 use Rattle.wl_match.specs.Runs.{child, element_at, part_at, run_at, tree_at}
 use Rattle.wl_match.specs.Means.{IsPart, ask_at, children, flags_at, from_child, head_at, inside, name_at, site_at}
@@ -32,7 +32,9 @@ use Rattle.wl_match.specs.Kinds.{Kind, One, Purpose, of_name, of_test, any_kind,
 use Rattle.wl_match.specs.Kinds as kind
 use Rattle.wl_match.specs.Fits.{fits, has_test, kind_at, mark_fits, may_lend}
 use Rattle.wl_match.specs.Serves.{EachServes, ElementServes, ElementsFit, ElementsServe, Fits, GoalFits, MatchFits, NodeServes, Serves, bare_fits, element_fits, is_bare, is_headed, is_like, left_fits, may_stretch, stands_alone, Narrows}
+use Rattle.std.proofs.Math.Bool.{and-true}
 use Rattle.wl_match.proofs.Fitting.{any_one}
+use Rattle.wl_match.proofs.Picks.{the_one}
 
 pub put_one : (ss : List Part) (t : Tree) (old new : Walk) (g : Goal) → Puts old new (g ∷ []) → GoalFits ss t g → Fits ss t old → Fits ss t new
 put_one ss t old new g p h f = p.fits ss t (All-cons (GoalFits ss t) g [] h (All-nil (GoalFits ss t))) f
@@ -327,3 +329,14 @@ bound_fits ss t i r r' old new e m h f = m.fits ss t (ap (λ z. mark_fits ss t (
 
 pub tested_note_fits : (ss : List Part) (t : Tree) (i : ℕ) (r r' : Taken) (old new : Walk) → r' ≡ r → Marks old new (Noted i r') → GoalFits ss t (Note i r) → Fits ss t old → Fits ss t new
 tested_note_fits ss t i r r' old new e m h f = m.fits ss t (ap (λ z. mark_fits ss t (Noted i z)) e ∙ h) f
+
+pub node_opened : (ss : List Part) (t : Tree) (i hp n : ℕ) (f : Flags) (h : Tree) (xs : List ℕ) (ys : List Tree) (r : Taken) (d : Bool) (old new : Walk) → site_at ss i ≡ record { head = h; flags = f } → inside ss i ≡ xs → pat ss i ≡ nodes f h (pat ss hp) (pats_of (pat ss) xs) → d ≡ all_have (Some h) ys → ys ≡ run_at ss t r → n ≡ length (run_at ss t r) → n ≡ 1 → (not f.flat || d) ≡ true
+    → ((u : Tree) → run_at ss t r ≡ u ∷ [] → is_bare r ≡ true → is_like ss i u ≡ true → NodeServes ss i hp → Fits ss t old → Fits ss t new)
+    → GoalFits ss t (Match i r) → Fits ss t old → Fits ss t new
+node_opened ss t i hp n f h xs ys r d old new s x w e y l m z k a q =
+    let o = the_one (run_at ss t r) (sym l ∙ m) in
+    let w' = is_node ss i hp f h xs s x w in
+    let like : is_like ss i o.0 ≡ true =
+    (λ v. not (s v).flags.flat || same (s v).head (head_of o.0))
+    ∙ ap (λ c. not f.flat || c) (sym (e ∙ ap (all_have (Some h)) (y ∙ o.1) ∙ and-true (same h (head_of o.0)))) ∙ z in
+    k o.0 o.1 (node_bare ss t i hp r w' a) like (node_serves ss i hp (kind_at ss t r) w' a.1) q

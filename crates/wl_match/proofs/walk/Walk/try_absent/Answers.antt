@@ -17,5 +17,5 @@ returns-in-None-name_at-clause-fits c h f = keeping.behind_fits c.args.pattern.n
 
 pub returns-in_ok-step-in-Some-name_at-clause-fits : goal.returns-in_ok-step-in-Some-name_at-clause-fits
 returns-in_ok-step-in-Some-name_at-clause-fits c h f =
-    c.in_ok-step-in-Some-name_at.ensures.fits (keeping.default_fits c.args.pattern.now (plain c.args.subject.now) c.args.i c.args.j c.args.q _ c.args.left.now _ c.requires c.in-Some-name_at.ensures h)
+    c.in_ok-step-in-Some-name_at.ensures.fits (keeping.default_fits c.args.pattern.now (plain c.args.subject.now) c.args.i c.args.j c.args.q _ c.args.left.now c.kept-place.result c.requires c.in-Some-name_at.ensures h)
     (keeping.behind_fits c.args.pattern.now (plain c.args.subject.now) c.args.i c.args.j c.args.q _ c.args.left.now _ c.args.self.now _ c.requires c.in_ok-next.ensures c.in_ok-copy.ensures c.in_ok-put.ensures h f)
