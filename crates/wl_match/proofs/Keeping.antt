@@ -27,7 +27,7 @@ use Rattle.wl_match.specs.Trials.{all_have, name_of, stretches}
 use Rattle.wl_match.specs.Parts.{inner_or_blank, pat, pat_of, pats_of, whole}
 use Rattle.wl_match.specs.Runs.{child, element_at, part_at, run_at, tree_at}
 use Rattle.wl_match.specs.Means.{IsPart, ask_at, children, flags_at, from_child, head_at, inside, name_at, site_at}
-use Rattle.wl_match.specs.Plays.{Keeps, Marks, Puts}
+use Rattle.wl_match.specs.Plays.{IsEmpty, Keeps, Marks, Puts}
 use Rattle.wl_match.specs.Kinds.{Kind, One, Purpose, of_name, of_test, any_kind, any_lends, elements_lend, is_it, lends, same_ask, same_kind, same_purpose}
 use Rattle.wl_match.specs.Kinds as kind
 use Rattle.wl_match.specs.Fits.{fits, has_test, kind_at, mark_fits, may_lend}
@@ -340,3 +340,9 @@ node_opened ss t i hp n f h xs ys r d old new s x w e y l m z k a q =
     (λ v. not (s v).flags.flat || same (s v).head (head_of o.0))
     ∙ ap (λ c. not f.flat || c) (sym (e ∙ ap (all_have (Some h)) (y ∙ o.1) ∙ and-true (same h (head_of o.0)))) ∙ z in
     k o.0 o.1 (node_bare ss t i hp r w' a) like (node_serves ss i hp (kind_at ss t r) w' a.1) q
+
+-- ---- the beginning
+
+pub begins_fit : (ss : List Part) (t : Tree) (old new : Walk) (i : ℕ) (r : Taken) → IsEmpty old → Keeps old new (Match i r) → i ≡ length ss - 1 → r ≡ At (record { root = None; steps = [] }) → Fits ss t new
+begins_fit ss t old new i r h k e f =
+    k.fits ss t (subst (MatchFits ss t i) (sym f) (refl, λ x y l. ap (λ z. lends (pat ss z) One x y) (sym e) ∙ l)) (h.fits ss t)
