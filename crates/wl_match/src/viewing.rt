@@ -2,11 +2,12 @@
 ghost use Rattle.std.specs.Prelude.{◌≡◌, IfSome, IsTrue, List, slice_get};
 ghost use Rattle.std.specs.List.{All};
 ghost use Rattle.std.specs.Option.{option_map};
+ghost use Rattle.wl_expr.specs.Passed.{IsFrom};
 ghost use Rattle.wl_expr.specs.Stamped.{Stamped, plain};
-ghost use Rattle.wl_match.specs.Fits as fit;
-ghost use Rattle.wl_match.specs.Kinds.{IsOfKind, of_name};
+ghost use Rattle.wl_match.specs.Fits.{fits, kind_at, noted_in};
+ghost use Rattle.wl_match.specs.Kinds.{IsOfKind, IsProper, kind_of, of_name};
 ghost use Rattle.wl_match.specs.Left.{Searches, binding, marks_in};
-ghost use Rattle.wl_match.specs.Parts.{whole};
+ghost use Rattle.wl_match.specs.Parts.{kept, whole};
 ghost use Rattle.wl_match.specs.Runs as runs;
 ghost use Rattle.wl_match.specs.Runs.{run_at};
 ghost use Rattle.wl_match.specs.Search.{run_of};
@@ -21,8 +22,11 @@ use crate::view::{Test, View};
 use wl_expr::Expr;
 
 fn shown<'m, 'a>(pattern: &'a Pattern, subject: &'a Expr, run: &'m Taken) -> Run<'m, 'a>
-    ensures { IsTrue (fit.fits pattern.now (plain subject.now) run.now)
+    ensures trees { IsTrue (fits pattern.now (plain subject.now) run.now)
         → runs.shown result ≡ run_at pattern.now (plain subject.now) run.now }
+    ensures kind { kind_of result ≡ kind_at pattern.now (plain subject.now) run.now }
+    ensures proper { IsTrue (fits pattern.now (plain subject.now) run.now) → IsProper result }
+    ensures passed { (ms : List Stamped) → IsFrom ms subject.now → All (IsFrom ms) (kept pattern.now) → IsRunFrom ms result }
 {
     match run {
         Taken::Nothing => Run::Slice(&[]),
@@ -60,7 +64,9 @@ fn marks(machine: &Machine) -> &[Mark]
 }
 
 /// The test with this number among those of a trail: its part, and its run.
-fn noted(trail: &[Mark], k: u32) -> Option<(usize, &Taken)> {
+fn noted(trail: &[Mark], k: u32) -> Option<(usize, &Taken)>
+    ensures { option_map (λ n. (n.0, n.1.now)) result ≡ slice_get (noted_in trail.now) k }
+{
     let mut left = k;
     for mark in trail {
         match mark {
