@@ -1,12 +1,10 @@
 -- What a candidate lends.
 use Rattle.std.proofs.Common.{◌≡◌, ◌≢◌, ◌<◌, ◌≤◌, ◌+◌, ◌-◌, ◌&&◌, ℕ, zero, suc, Bool, true, false, List, [], ◌∷◌, ◌++◌, length, get_or, map, take, drop, if◌then◌else◌, Option, Some, None, refl, ap, sym, subst, ◌∙◌, arith}
-use Rattle.std.specs.Prelude.{IsTrue, nat_eq, nat_lt, slice_get}
+use Rattle.std.specs.Prelude.{IsTrue, MatchOption, nat_eq, nat_lt, slice_get, unwrap_or}
 use Rattle.std.specs.List.{All}
-use Rattle.std.specs.Str.{bytes_eq}
 use Rattle.std.proofs.lemmas.Bool.{and_from, and_parts, eq-eqb, ltb-true, ne_eqb}
 use Rattle.std.proofs.lemmas.List.{drop_all, length-map}
 use Rattle.std.proofs.lemmas.List.Elements.{All-cons, All-head, All-nil, All-tail}
-use Rattle.std.proofs.lemmas.Slice.Eq.{bytes_eq-Decides}
 use Rattle.std.proofs.Math.Seq.{drop-cons}
 use Rattle.wl_expr.specs.Tree.{Tree, node, from_list}
 use Rattle.wl_expr.specs.Same.{same, same_decides}
@@ -23,7 +21,10 @@ use Rattle.wl_match.specs.declared.machine.State.TheVariants.{Fresh, Begun, Dead
 use Rattle.wl_match.specs.Parts.{kept, kept_by}
 use Rattle.wl_match.specs.Runs.{child, element_at, elements_of, kept_at, part_at, picked, run_at, tree_at}
 use Rattle.wl_match.specs.Means.{ask_at, entries, name_at}
+use Rattle.wl_match.specs.declared.view.Test.{Test}
 use Rattle.wl_match.specs.Plays.{trail_of}
+use Rattle.wl_match.specs.Shown.{Asks, IsTest, tests_in}
+use Rattle.std.specs.Option.{option_map}
 use Rattle.wl_match.specs.Left.{SearchesIn, bound_in, marks_in}
 use Rattle.wl_match.specs.Kinds.{ArePlaces, Kind, One, of_name, of_test}
 use Rattle.wl_match.specs.Kinds as kind
@@ -50,13 +51,6 @@ pub mark_fits_at : (ss : List Part) (t : Tree) (ms : List Mark) (k : ℕ) (m : M
 mark_fits_at ss t [] k m h e f = absurd (omega arith)
 mark_fits_at ss t (x ∷ ms) zero m h e f = ap (mark_fits ss t) e ∙ (and_parts (mark_fits ss t x) (all_fit ss t ms) f).0
 mark_fits_at ss t (x ∷ ms) (suc k) m h e f = mark_fits_at ss t ms k m (omega arith) e (and_parts (mark_fits ss t x) (all_fit ss t ms) f).1
-
--- what is bound to a name fits it
-pub bound_fits : (ss : List Part) (j : ℕ) (x : List ℕ) (m : Mark) (r : Taken) (b : Bool) → m ≡ Bound j r → b ≡ true → b ≡ bytes_eq x (name_at (part_at ss j)) → (t : Tree) → mark_fits ss t m ≡ true → (fits ss t r ≡ true) × (may_lend ss t (of_name x) r ≡ true)
-bound_fits ss j x m r b e f g t h =
-    let k = and_parts (fits ss t r) (may_lend ss t (of_name (name_at (part_at ss j))) r) (sym (ap (mark_fits ss t) e) ∙ h) in
-    let w : x ≡ name_at (part_at ss j) = (bytes_eq-Decides x (name_at (part_at ss j))).0 (sym g ∙ f) in
-    (k.0, ap (λ z. may_lend ss t (of_name z) r) w ∙ k.1)
 
 -- ---- views
 
@@ -145,3 +139,36 @@ this_noted ms k j n l m r h e f z g = (λ v. slice_get (noted_in (sym (step ms k
 
 pub none_noted : (ms : List Mark) (k n l : ℕ) → length ms ≤ k → slice_get (noted_in (drop k ms)) l ≡ slice_get (noted_in ms) n → None ≡ slice_get (noted_in ms) n
 none_noted ms k n l h g = ap (λ z. slice_get (noted_in z) l) (sym (drop_all k ms h)) ∙ g
+
+tests_noted : (ss : List Part) (t : Tree) (ms : List Mark) (k : ℕ) → slice_get (tests_in (entries ss t ms)) k ≡ option_map (λ n. (ask_at (part_at ss n.0), run_at ss t n.1)) (slice_get (noted_in ms) k)
+tests_noted ss t [] k = refl
+tests_noted ss t (Bound i r ∷ ms) k = tests_noted ss t ms k
+tests_noted ss t (Noted i r ∷ ms) zero = refl
+tests_noted ss t (Noted i r ∷ ms) (suc k) = tests_noted ss t ms k
+
+pub past_tests : (ss : List Part) (t : Tree) (ms : List Mark) (k : ℕ) → None ≡ slice_get (noted_in ms) k → IsTest None (slice_get (tests_in (entries ss t ms)) k)
+past_tests ss t ms k e = subst (IsTest None) (sym (tests_noted ss t ms k ∙ ap (option_map (λ n. (ask_at (part_at ss n.0), run_at ss t n.1))) (sym e))) tt
+
+pub asked : (ss : List Part) (t : Tree) (ms : List Mark) (k i : ℕ) (r : Taken) (s : Part) (x : Test) (xs : List Tree) → Some (i, r) ≡ slice_get (noted_in ms) k → part_at ss i ≡ s → xs ≡ run_at ss t r → Asks x (ask_at s) xs → IsTest (Some x) (slice_get (tests_in (entries ss t ms)) k)
+asked ss t ms k i r s x xs e f g h =
+    subst (IsTest (Some x)) (sym (tests_noted ss t ms k ∙ ap (option_map (λ n. (ask_at (part_at ss n.0), run_at ss t n.1))) (sym e)))
+    (subst (λ z. Asks x (ask_at z) (run_at ss t r)) (sym f) (subst (Asks x (ask_at s)) g h))
+
+pub noted_fits : (ss : List Part) (t : Tree) (ms : List Mark) (k i : ℕ) (r : Taken) → Some (i, r) ≡ slice_get (noted_in ms) k → all_fit ss t ms ≡ true → (has_test (part_at ss i) ≡ true) × ((fits ss t r ≡ true) × (may_lend ss t (of_test (ask_at (part_at ss i))) r ≡ true))
+noted_fits ss t [] k i r e h = cc
+noted_fits ss t (Bound j q ∷ ms) k i r e h = noted_fits ss t ms k i r e (and_parts (mark_fits ss t (Bound j q)) (all_fit ss t ms) h).1
+noted_fits ss t (Noted j q ∷ ms) (suc k) i r e h = noted_fits ss t ms k i r e (and_parts (mark_fits ss t (Noted j q)) (all_fit ss t ms) h).1
+noted_fits ss t (Noted j q ∷ ms) zero i r e h =
+    let a : i ≡ j = ap (λ o. (unwrap_or {T = ℕ × Taken} o (i, r)).0) e in
+    let b : r ≡ q = ap (λ o. (unwrap_or {T = ℕ × Taken} o (i, r)).1) e in
+    let m : mark_fits ss t (Noted i r) ≡ true = (λ v. mark_fits ss t (Noted (a v) (b v))) ∙ (and_parts (mark_fits ss t (Noted j q)) (all_fit ss t ms) h).0 in
+    let k = and_parts (has_test (part_at ss i) && fits ss t r) (may_lend ss t (of_test (ask_at (part_at ss i))) r) m in
+    let l = and_parts (has_test (part_at ss i)) (fits ss t r) k.0 in
+    (l.0, (l.1, k.1))
+
+pub no_test : (ss : List Part) (i : ℕ) (s : Part) → part_at ss i ≡ s → has_test s ≡ false → has_test (part_at ss i) ≡ true → ⊥
+no_test ss i s e f h = let k : true ≡ false = sym h ∙ ap has_test e ∙ f in cc
+
+pub given : (ss : List Part) (t : Tree) (ms : List Mark) (k i : ℕ) (r : Taken) (s : Part) (o : Option Test) (xs : List Tree) → Some (i, r) ≡ slice_get (noted_in ms) k → part_at ss i ≡ s → xs ≡ run_at ss t r → MatchOption o (has_test s ≡ false) (λ x. Asks x (ask_at s) xs) → has_test (part_at ss i) ≡ true → IsTest o (slice_get (tests_in (entries ss t ms)) k)
+given ss t ms k i r s (Some x) xs e f g h o = asked ss t ms k i r s x xs e f g h
+given ss t ms k i r s None xs e f g h o = absurd (no_test ss i s f h o)

@@ -10,12 +10,12 @@ use Rattle.wl_match.specs.declared.lent.Run.TheVariants as run
 use Rattle.wl_match.specs.declared.view.View.{View}
 use Rattle.wl_match.specs.declared.view.Test.{Test}
 use Rattle.wl_match.specs.declared.view.Test.TheVariants as test
-use Rattle.wl_match.specs.Pattern.{Ask, applies, holds, refuses}
+use Rattle.wl_match.specs.Pattern.{Ask, Pat, applies, holds, refuses}
 use Rattle.wl_match.specs.Search.{Trail, bound, noted}
-use Rattle.wl_match.specs.Parts.{kept, whole}
+use Rattle.wl_match.specs.Parts.{kept}
 use Rattle.wl_match.specs.Means.{entries}
 use Rattle.wl_match.specs.Runs.{shown}
-use Rattle.wl_match.specs.Kinds.{IsOfKind, of_name, of_test}
+use Rattle.wl_match.specs.Kinds.{IsOfKind, of_test}
 
 -- the pattern and the subject of a view
 abbrev pub pattern_in : View → List Part
@@ -46,10 +46,11 @@ IsTest None None = ⊤
 IsTest (Some x) (Some y) = Asks x y.0 y.1
 IsTest _ _ = ⊥
 
-abbrev pub IsTestOfKind : View → Test → Type 0
-IsTestOfKind v (test.Applies t r) = IsOfKind (whole (pattern_in v)) (of_test (applies (plain t.now))) r
-IsTestOfKind v (test.Holds t) = ⊤
-IsTestOfKind v (test.Refuses t r) = IsOfKind (whole (pattern_in v)) (of_test (refuses (plain t.now))) r
+-- the whole pattern may take a run of this kind for this test
+abbrev pub IsTestOfKind : Pat → Test → Type 0
+IsTestOfKind p (test.Applies t r) = IsOfKind p (of_test (applies (plain t.now))) r
+IsTestOfKind p (test.Holds t) = ⊤
+IsTestOfKind p (test.Refuses t r) = IsOfKind p (of_test (refuses (plain t.now))) r
 
 -- the stamps of what is lent are those of pattern and subject
 abbrev pub IsRunFrom : List Stamped → Run → Type 0

@@ -1,17 +1,19 @@
 //! What a candidate binds, and its tests.
-ghost use Rattle.std.specs.Prelude.{◌≡◌, IfSome, IsTrue, List, slice_get};
+ghost use Rattle.std.specs.Prelude.{◌≡◌, false, IfSome, IsTrue, List, MatchOption, slice_get};
 ghost use Rattle.std.specs.List.{All};
 ghost use Rattle.std.specs.Option.{option_map};
 ghost use Rattle.wl_expr.specs.Passed.{IsFrom};
 ghost use Rattle.wl_expr.specs.Stamped.{Stamped, plain};
-ghost use Rattle.wl_match.specs.Fits.{fits, kind_at, noted_in};
-ghost use Rattle.wl_match.specs.Kinds.{IsOfKind, IsProper, kind_of, of_name};
+ghost use Rattle.wl_match.specs.Fits.{fits, has_test, kind_at, noted_in};
+ghost use Rattle.wl_match.specs.Kinds.{IsOfKind, IsProper, kind_of, of_name, of_test};
 ghost use Rattle.wl_match.specs.Left.{Searches, binding, marks_in};
-ghost use Rattle.wl_match.specs.Parts.{kept, whole};
+ghost use Rattle.wl_match.specs.Means.{ask_at};
+ghost use Rattle.wl_match.specs.Parts.{kept, kept_by, whole};
+ghost use Rattle.wl_match.specs.Pattern.{Pat};
 ghost use Rattle.wl_match.specs.Runs as runs;
 ghost use Rattle.wl_match.specs.Runs.{run_at};
 ghost use Rattle.wl_match.specs.Search.{run_of};
-ghost use Rattle.wl_match.specs.Shown.{AreFrom, IsRunFrom, IsTest, IsTestFrom, IsTestOfKind, pattern_in, subject_in, tests_in, trail_in};
+ghost use Rattle.wl_match.specs.Shown.{AreFrom, Asks, IsRunFrom, IsTest, IsTestFrom, IsTestOfKind, pattern_in, subject_in, tests_in, trail_in};
 
 use crate::lent::{Run, args_of, element_at, some_of, tree_at};
 use crate::machine::{Machine, State};
@@ -82,6 +84,20 @@ fn noted(trail: &[Mark], k: u32) -> Option<(usize, &Taken)>
     None
 }
 
+/// The test of a part on a run.
+fn test_of<'m, 'a>(part: &'a Part, run: Run<'m, 'a>) -> Option<Test<'m, 'a>>
+    ensures asks { MatchOption result (has_test part.now ≡ false) (λ x. Asks x (ask_at part.now) (runs.shown run.entry)) }
+    ensures kind { (p : Pat) → IsOfKind p (of_test (ask_at part.now)) run.entry → IfSome result (λ x. IsTestOfKind p x) }
+    ensures passed { (ms : List Stamped) → All (IsFrom ms) (kept_by part.now) → IsRunFrom ms run.entry → IfSome result (λ x. IsTestFrom ms x) }
+{
+    match part {
+        Part::Applies(t, _) => Some(Test::Applies(t, run)),
+        Part::Holds(t, _) => Some(Test::Holds(t)),
+        Part::Except(t, _) => Some(Test::Refuses(t, run)),
+        _ => None,
+    }
+}
+
 impl Machine {
     /// The candidate that the last leaf was, of the pattern and the subject that `next` was given.
     pub fn view<'m, 'a>(&'m self, pattern: &'a Pattern, subject: &'a Expr) -> View<'m, 'a>
@@ -115,7 +131,7 @@ impl<'m, 'a> View<'m, 'a> {
     /// The test with this number, from 0.
     pub fn test(&self, k: u32) -> Option<Test<'m, 'a>>
         ensures test { IsTest result (slice_get (tests_in (trail_in self.now)) k) }
-        ensures kind { IfSome result (λ x. IsTestOfKind self.now x) }
+        ensures kind { IfSome result (λ x. IsTestOfKind (whole (pattern_in self.now)) x) }
         ensures passed { (ms : List Stamped) → AreFrom ms self.now → IfSome result (λ x. IsTestFrom ms x) }
     {
         let (i, run) = match noted(self.trail, k) {
@@ -123,14 +139,8 @@ impl<'m, 'a> View<'m, 'a> {
             None => return None,
         };
         match self.pattern.part(i) {
-            Some(Part::Applies(t, _)) => {
-                Some(Test::Applies(t, shown(self.pattern, self.subject, run)))
-            }
-            Some(Part::Holds(t, _)) => Some(Test::Holds(t)),
-            Some(Part::Except(t, _)) => {
-                Some(Test::Refuses(t, shown(self.pattern, self.subject, run)))
-            }
-            _ => None,
+            Some(part) => test_of(part, shown(self.pattern, self.subject, run)),
+            None => None,
         }
     }
 }
