@@ -1,10 +1,10 @@
 -- Runs that fit.
-use Rattle.std.proofs.Common.{◌≡◌, ◌<◌, ◌≤◌, ◌+◌, ◌-◌, ◌&&◌, ◌||◌, ℕ, zero, suc, min, Bool, true, false, not, List, [], ◌∷◌, ◌++◌, length, get_or, map, take, drop, if◌then◌else◌, ◌⊎◌, Option, Some, None, refl, ap, sym, subst, ◌∙◌, arith, inl, inr}
-use Rattle.std.specs.Prelude.{IsTrue, nat_eq, nat_lt}
-use Rattle.std.proofs.lemmas.Bool.{and_from, and_parts, cases_Bool, eq-eqb, lt-ltb, ltb-true, or_cases, or_left, or_right}
+use Rattle.std.proofs.Common.{◌≡◌, ◌<◌, ◌≤◌, ◌+◌, ◌&&◌, ◌||◌, ℕ, zero, suc, Bool, true, false, not, List, [], ◌∷◌, ◌++◌, length, get_or, take, drop, if◌then◌else◌, ◌⊎◌, refl, ap, sym, subst, ◌∙◌, arith, inl, inr}
+use Rattle.std.specs.Prelude.{nat_eq, nat_lt}
+use Rattle.std.proofs.lemmas.Bool.{and_from, and_parts, lt-ltb, ltb-true, or_left, or_right}
 use Rattle.std.proofs.lemmas.List.{length-drop, length-map, length-take}
 use Rattle.wl_expr.specs.Tree.{Tree}
-use Rattle.wl_expr.specs.Same.{same, same_decides}
+use Rattle.wl_expr.specs.Same.{same}
 use Rattle.wl_match.specs.declared.flags.Flags.{Flags}
 use Rattle.wl_match.specs.declared.part.Part.{Part}
 use Rattle.wl_match.specs.declared.part.Part.TheVariants as part
@@ -18,8 +18,8 @@ use Rattle.wl_match.specs.Means.{flags_at, head_at, site_at}
 use Rattle.wl_match.specs.Trials.{stretches}
 use Rattle.wl_match.specs.Kinds.{Kind, One, Purpose, any_kind, lends}
 use Rattle.wl_match.specs.Kinds as kind
-use Rattle.wl_match.specs.Fits.{are_places, fits, kind_at, one_or}
-use Rattle.wl_match.specs.Serves.{ElementServes, IsPicked, Narrows, bare_fits, element_fits, is_bare, is_headed, is_single, left_fits, may_stretch, stands_alone}
+use Rattle.wl_match.specs.Fits.{are_places, fits}
+use Rattle.wl_match.specs.Serves.{ElementServes, Narrows, bare_fits, element_fits, is_headed, is_single, left_fits, stands_alone}
 
 -- ---- places
 
@@ -174,8 +174,8 @@ wrapped_serves ss t i q p is s h l a =
     let head : same (head_at (part_at ss i)) (child 0 (tree_at ss t p)) ≡ true = ap (λ z. not z || same (head_at (part_at ss i)) (child 0 (tree_at ss t p))) (sym f.0) ∙ h in
     let kept : same (kept_at ss t i) (child 0 (tree_at ss t p)) ≡ true = ap (λ z. same z (child 0 (tree_at ss t p))) (stretched_head t (part_at ss i) (λ g. stretchable g (pat ss q)) s) ∙ head in (
       and_from (stretchable (head_at (part_at ss i)) (pat ss q)) (fits ss t (Wrapped i p is)) f.1
-      (and_from (same (kept_at ss t i) (child 0 (tree_at ss t p)) && nat_lt 1 (length is)) (are_places (tree_at ss t p) is)
-      (and_from (same (kept_at ss t i) (child 0 (tree_at ss t p))) (nat_lt 1 (length is)) kept (lt-ltb 1 (length is) l)) a),
+          (and_from (same (kept_at ss t i) (child 0 (tree_at ss t p)) && nat_lt 1 (length is)) (are_places (tree_at ss t p) is)
+          (and_from (same (kept_at ss t i) (child 0 (tree_at ss t p))) (nat_lt 1 (length is)) kept (lt-ltb 1 (length is) l)) a),
       λ x k e. any_wrapped (flags_at (part_at ss i)) (stands_alone ss i) (stretches (site_at ss i) (pat ss q)) (λ j. lends (pat ss q) j x k) s e,
     )
 

@@ -1,16 +1,14 @@
 -- What fits is kept by the steps of a walk.
-use Rattle.std.proofs.Common.{◌≡◌, ◌≢◌, ◌<◌, ◌≤◌, ◌+◌, ◌-◌, ◌&&◌, ◌||◌, ℕ, zero, suc, Bool, true, false, not, List, [], ◌∷◌, ◌++◌, length, get_or, take, drop, if◌then◌else◌, Option, Some, None, refl, ap, sym, subst, ◌∙◌, arith}
-use Rattle.std.specs.Prelude.{IfSome, IsTrue, nat_eq, Vec}
+use Rattle.std.proofs.Common.{◌≡◌, ◌≢◌, ◌+◌, ◌-◌, ◌&&◌, ◌||◌, ℕ, Bool, true, false, not, List, [], ◌∷◌, length, take, drop, if◌then◌else◌, Option, Some, None, refl, ap, sym, subst, ◌∙◌, arith}
+use Rattle.std.specs.Prelude.{IfSome, nat_eq, Vec}
 use Rattle.std.specs.Global.{Global}
-use Rattle.std.specs.List.{All}
 use Rattle.std.specs.Str.{bytes_eq}
 use Rattle.std.proofs.lemmas.Bool.{and_from, and_parts, eq-eqb, or_left, or_right}
-use Rattle.std.proofs.lemmas.List.{drop_all, length-map, take_all}
+use Rattle.std.proofs.lemmas.List.{length-map}
 use Rattle.std.proofs.lemmas.List.Elements.{All-cons, All-nil}
 use Rattle.wl_expr.specs.Tree.{Tree, Trees, node}
 use Rattle.wl_expr.specs.Same.{same, same_decides}
 use Rattle.wl_expr.specs.Words.{head_of}
-use Rattle.wl_expr.specs.Stamped.{plain}
 use Rattle.wl_match.specs.declared.flags.Flags.{Flags}
 use Rattle.wl_match.specs.declared.part.Part.{Part}
 use Rattle.wl_match.specs.declared.part.Part.TheVariants as part
@@ -18,20 +16,19 @@ use Rattle.wl_match.specs.declared.taken.Place.{Place}
 use Rattle.wl_match.specs.declared.taken.Taken.{Taken}
 use Rattle.wl_match.specs.declared.taken.Taken.TheVariants.{Nothing, Tree as At, Slice, Picked, Wrapped}
 use Rattle.wl_match.specs.declared.taken.Goal.{Goal}
-use Rattle.wl_match.specs.declared.taken.Goal.TheVariants.{Match, Members, Turn, Elements, Lengths, Pick, Bind, Note}
-use Rattle.wl_match.specs.declared.taken.Mark.{Mark}
+use Rattle.wl_match.specs.declared.taken.Goal.TheVariants.{Match, Members, Turn, Elements, Bind, Note}
 use Rattle.wl_match.specs.declared.taken.Mark.TheVariants.{Bound, Noted}
 use Rattle.wl_match.specs.declared.walk.Walk.{Walk}
-use Rattle.wl_match.specs.Pattern.{Count, Ask, applies, holds, refuses, Pat, Pats, exactly, blank, named, tested, hold, optional, alternatives, repeated, except, nodes, end, also, any_optional, name_in, stretchable}
+use Rattle.wl_match.specs.Pattern.{Count, Ask, applies, holds, refuses, Pat, Pats, exactly, blank, named, tested, hold, optional, alternatives, repeated, except, nodes, also, any_optional, name_in, stretchable}
 use Rattle.wl_match.specs.Trials.{all_have, name_of, stretches}
-use Rattle.wl_match.specs.Parts.{inner_or_blank, pat, pat_of, pats_of, whole}
+use Rattle.wl_match.specs.Parts.{inner_or_blank, pat, pat_of, pats_of}
 use Rattle.wl_match.specs.Runs.{child, element_at, part_at, run_at, tree_at}
 use Rattle.wl_match.specs.Means.{IsPart, ask_at, children, flags_at, from_child, head_at, inside, name_at, site_at}
 use Rattle.wl_match.specs.Plays.{IsEmpty, Keeps, Marks, Puts}
 use Rattle.wl_match.specs.Kinds.{Kind, One, Purpose, of_name, of_test, any_kind, any_lends, elements_lend, is_it, lends, same_ask, same_kind, same_purpose}
 use Rattle.wl_match.specs.Kinds as kind
 use Rattle.wl_match.specs.Fits.{fits, has_test, kind_at, mark_fits, may_lend}
-use Rattle.wl_match.specs.Serves.{EachServes, ElementServes, ElementsFit, ElementsServe, Fits, GoalFits, MatchFits, NodeServes, Serves, bare_fits, element_fits, is_bare, is_headed, is_like, left_fits, may_stretch, stands_alone, Narrows}
+use Rattle.wl_match.specs.Serves.{ElementServes, ElementsFit, ElementsServe, Fits, GoalFits, MatchFits, NodeServes, Serves, bare_fits, element_fits, is_bare, is_headed, is_like, left_fits, may_stretch, stands_alone, Narrows}
 use Rattle.std.proofs.Math.Bool.{and-true}
 use Rattle.wl_match.proofs.Fitting.{any_one}
 use Rattle.wl_match.proofs.Picks.{the_one}

@@ -25,7 +25,7 @@ use Rattle.wl_match.specs.Pattern.{Pat, Pats, exactly, blank, named, tested, hol
 use Rattle.wl_match.specs.Search.{Trail, Fail, Search, leaf, later, either, leaves, Cont, fail, guard, or_else, or_fail}
 use Rattle.wl_match.specs.Trials.{Site, Took, absent, all_have, default_of, each_length, elements, name_of, pick, shaped, stretches, takes, trials}
 use Rattle.wl_match.specs.Parts.{has_own_head, is_exactly, pat, pat_of, pats_of}
-use Rattle.wl_match.specs.Runs.{child, element_at, elements_of, keeps, kept_at, part_at, or_tree, picked, root_at, run_at, tree_at}
+use Rattle.wl_match.specs.Runs.{child, element_at, elements_of, kept_at, part_at, picked, root_at, run_at, tree_at}
 use Rattle.wl_match.specs.Means.{IsPart, children, conts, flags_at, from_child, goal_means, has_later, head_at, inside, lengths_on, name_at, picks_on, site_at, taking, tree_among}
 use Rattle.wl_match.specs.Plays.{Goes, Keeps, Plays, Puts, Turns, expanding, goals_of, noding, now, opened, opening, rest, skipping, taken_before, taken_by, trail_of}
 use Rattle.wl_match.proofs.Arms.{plays_as, plays_fail, plays_kept, plays_put, puts_two}

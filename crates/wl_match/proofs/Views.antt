@@ -1,8 +1,8 @@
 -- What a candidate lends.
-use Rattle.std.proofs.Common.{◌≡◌, ◌≢◌, ◌<◌, ◌≤◌, ◌+◌, ◌-◌, ◌&&◌, ℕ, zero, suc, Bool, true, false, List, [], ◌∷◌, ◌++◌, length, get_or, map, take, drop, if◌then◌else◌, Option, Some, None, refl, ap, sym, subst, ◌∙◌, arith}
-use Rattle.std.specs.Prelude.{IsTrue, MatchOption, nat_eq, nat_lt, slice_get, unwrap_or}
+use Rattle.std.proofs.Common.{◌≡◌, ◌≢◌, ◌<◌, ◌≤◌, ◌+◌, ◌-◌, ◌&&◌, ℕ, zero, suc, true, false, List, [], ◌∷◌, ◌++◌, length, get_or, map, drop, if◌then◌else◌, Option, Some, None, refl, ap, sym, subst, ◌∙◌, arith}
+use Rattle.std.specs.Prelude.{MatchOption, nat_lt, slice_get, unwrap_or}
 use Rattle.std.specs.List.{All}
-use Rattle.std.proofs.lemmas.Bool.{and_from, and_parts, eq-eqb, ltb-true, ne_eqb}
+use Rattle.std.proofs.lemmas.Bool.{and_parts, eq-eqb, ltb-true, ne_eqb}
 use Rattle.std.proofs.lemmas.List.{drop_all, length-map}
 use Rattle.std.proofs.lemmas.List.Elements.{All-cons, All-head, All-nil, All-tail}
 use Rattle.std.proofs.Math.Seq.{drop-cons}
@@ -10,7 +10,6 @@ use Rattle.wl_expr.specs.Tree.{Tree, node, from_list}
 use Rattle.wl_expr.specs.Same.{same, same_decides}
 use Rattle.wl_expr.specs.Stamped.{Stamped, plain}
 use Rattle.wl_match.specs.declared.part.Part.{Part}
-use Rattle.wl_match.specs.declared.part.Part.TheVariants as part
 use Rattle.wl_match.specs.declared.taken.Place.{Place}
 use Rattle.wl_match.specs.declared.taken.Taken.{Taken}
 use Rattle.wl_match.specs.declared.taken.Taken.TheVariants as taken
@@ -20,7 +19,7 @@ use Rattle.wl_match.specs.declared.machine.State.{State}
 use Rattle.wl_match.specs.declared.machine.State.TheVariants.{Fresh, Begun, Dead}
 use Rattle.wl_match.specs.Parts.{kept, kept_by}
 use Rattle.wl_match.specs.Runs.{child, element_at, elements_of, kept_at, part_at, picked, run_at, tree_at}
-use Rattle.wl_match.specs.Means.{ask_at, entries, name_at}
+use Rattle.wl_match.specs.Means.{ask_at, entries}
 use Rattle.wl_match.specs.declared.view.Test.{Test}
 use Rattle.wl_match.specs.Plays.{trail_of}
 use Rattle.wl_match.specs.Shown.{Asks, IsTest, tests_in}

@@ -1,5 +1,5 @@
 -- What the steps of a walk change.
-use Rattle.std.proofs.Common.{◌≡◌, ◌≤◌, ◌+◌, ◌&&◌, ℕ, zero, suc, true, false, List, [], ◌∷◌, ◌++◌, length, reverse, take, Some, None, Result, Ok, Err, MatchResult, refl, ap, sym, subst, ◌∙◌, arith, length-append, le_trans}
+use Rattle.std.proofs.Common.{◌≡◌, ◌≤◌, ◌+◌, ℕ, zero, suc, true, false, List, [], ◌∷◌, ◌++◌, length, reverse, take, Some, None, Result, Ok, Err, MatchResult, refl, ap, sym, subst, ◌∙◌, arith, length-append, le_trans}
 use Rattle.std.specs.List.{All}
 use Rattle.std.proofs.lemmas.Bool.{and_from, and_parts}
 use Rattle.std.proofs.lemmas.List.Elements.{All-append, All-cons, All-head, All-nil, All-take}

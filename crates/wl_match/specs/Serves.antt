@@ -117,4 +117,4 @@ abbrev pub ElementServes : List Part → Tree → ℕ → ℕ → Taken → Type
 ElementServes ss t i q r =
     IsTrue (may_stretch ss q r && fits ss t r)
     × ((x : Purpose) (k : Kind) → IsTrue (lends (pat ss q) (kind_at ss t r) x k)
-        → IsTrue (any_kind (flags_at (part_at ss i)) (stands_alone ss i) (stretches (site_at ss i) (pat ss q)) (λ j. lends (pat ss q) j x k)))
+    → IsTrue (any_kind (flags_at (part_at ss i)) (stands_alone ss i) (stretches (site_at ss i) (pat ss q)) (λ j. lends (pat ss q) j x k)))

@@ -1,4 +1,3 @@
-use Rattle.std.proofs.Common.{arith}
 use Rattle.wl_expr.specs.Stamped.{plain}
 use Rattle.wl_match.proofs.Fitting as fitting
 use Rattle.wl_match.proofs.cuts.wrapped.Goals as goal

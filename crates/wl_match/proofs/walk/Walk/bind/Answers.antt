@@ -1,4 +1,4 @@
-use Rattle.std.proofs.Common.{ap, ◌∙◌, subst, sym}
+use Rattle.std.proofs.Common.{ap, ◌∙◌}
 use Rattle.wl_expr.specs.Stamped.{plain}
 use Rattle.wl_match.proofs.Arms as arms
 use Rattle.wl_match.proofs.Keeping as keeping

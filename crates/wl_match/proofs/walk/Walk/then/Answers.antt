@@ -1,4 +1,4 @@
-use Rattle.std.proofs.Common.{ap, subst, ◌∷◌, []}
+use Rattle.std.proofs.Common.{subst, ◌∷◌, []}
 use Rattle.wl_match.specs.declared.taken.Goal.TheVariants.{Match}
 use Rattle.wl_match.specs.Plays.{Puts}
 use Rattle.wl_match.proofs.Arms as arms

@@ -1,4 +1,4 @@
-use Rattle.std.proofs.Common.{◌≡◌, ◌||◌, Bool, true, not, ap, cond}
+use Rattle.std.proofs.Common.{◌≡◌, ◌||◌, true, not, ap}
 use Rattle.std.proofs.lemmas.Bool.{or_left, or_right}
 use Rattle.wl_expr.specs.Stamped.{plain}
 use Rattle.wl_match.proofs.Picks as picks

@@ -1,4 +1,4 @@
-use Rattle.std.proofs.Common.{refl, ap, ◌∙◌}
+use Rattle.std.proofs.Common.{refl}
 use Rattle.wl_expr.specs.Stamped.{plain}
 use Rattle.std.specs.Option.{option_map}
 use Rattle.wl_match.specs.Pattern.{hold, optional}
