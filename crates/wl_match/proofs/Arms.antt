@@ -168,7 +168,7 @@ members_more ss t i from q r r' r'' old mid new xs e l f g h k p =
 
 -- ---- bindings
 
-pub trail_is : (ss : List Part) (t : Tree) (w : Walk) (ms : List Mark) → ms ≡ w.trail.items → entries ss t ms ≡ trail_of ss t w
+pub trail_is : (ss : List Part) (t : Tree) (w : Walk) (ms : List Mark) → ms ≡ w.trail.all.items → entries ss t ms ≡ trail_of ss t w
 unfolding trail_of
 trail_is ss t w ms e = ap (entries ss t) e
 

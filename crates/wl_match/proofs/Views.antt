@@ -5,7 +5,6 @@ use Rattle.std.specs.List.{All}
 use Rattle.std.proofs.lemmas.Bool.{and_parts, eq-eqb, ltb-true, ne_eqb}
 use Rattle.std.proofs.lemmas.List.{drop_all, length-map}
 use Rattle.std.proofs.lemmas.List.Elements.{All-cons, All-head, All-nil, All-tail}
-use Rattle.std.proofs.Math.Seq.{drop-cons}
 use Rattle.wl_expr.specs.Tree.{Tree, node, from_list}
 use Rattle.wl_expr.specs.Same.{same, same_decides}
 use Rattle.wl_expr.specs.Stamped.{Stamped, plain}
@@ -27,7 +26,8 @@ use Rattle.std.specs.Option.{option_map}
 use Rattle.wl_match.specs.Left.{SearchesIn, bound_in, marks_in}
 use Rattle.wl_match.specs.Kinds.{ArePlaces, Kind, One, of_name, of_test}
 use Rattle.wl_match.specs.Kinds as kind
-use Rattle.wl_match.specs.Fits.{all_fit, are_places, fits, has_test, kind_at, mark_fits, may_lend, noted_in, one_or}
+use Rattle.wl_match.specs.Fits.{all_fit, are_places, fits, has_test, kind_at, mark_fits, may_lend, one_or}
+use Rattle.wl_match.specs.Listed.{noted_in}
 
 -- ---- stamps
 
@@ -120,24 +120,6 @@ wrapped_places ss t i p is js run u e g f h =
     (omega (arith, ap length g), all_places u js ((λ v. are_places (f v) (g v)) ∙ k.1))
 
 -- ---- tests
-
-step : (ms : List Mark) (k : ℕ) (m : Mark) → k < length ms → m ≡ get_or ms k m → drop k ms ≡ m ∷ drop (k + 1) ms
-step ms k m h e = drop-cons ms k m h ∙ (λ v. sym e v ∷ drop ((let n : suc k ≡ k + 1 = omega arith in n) v) ms)
-
-pub past_bound : (ms : List Mark) (k j n l : ℕ) (m : Mark) (r : Taken) → k < length ms → m ≡ get_or ms k m → m ≡ Bound j r → slice_get (noted_in (drop k ms)) l ≡ slice_get (noted_in ms) n → slice_get (noted_in (drop (k + 1) ms)) l ≡ slice_get (noted_in ms) n
-past_bound ms k j n l m r h e f g = (λ v. slice_get (noted_in (sym (step ms k m h e ∙ ap (λ z. z ∷ drop (k + 1) ms) f) v)) l) ∙ g
-
-pub past_noted : (ms : List Mark) (k j n l l' : ℕ) (m : Mark) (r : Taken) → k < length ms → m ≡ get_or ms k m → m ≡ Noted j r → l ≢ 0 → l' ≡ l - 1 → slice_get (noted_in (drop k ms)) l ≡ slice_get (noted_in ms) n → slice_get (noted_in (drop (k + 1) ms)) l' ≡ slice_get (noted_in ms) n
-past_noted ms k j n zero l' m r h e f z y g = absurd (z refl)
-past_noted ms k j n (suc l) l' m r h e f z y g =
-    let w : l' ≡ l = omega arith in
-    ap (slice_get (noted_in (drop (k + 1) ms))) w ∙ (λ v. slice_get (noted_in (sym (step ms k m h e ∙ ap (λ z. z ∷ drop (k + 1) ms) f) v)) (suc l)) ∙ g
-
-pub this_noted : (ms : List Mark) (k j n l : ℕ) (m : Mark) (r : Taken) → k < length ms → m ≡ get_or ms k m → m ≡ Noted j r → l ≡ 0 → slice_get (noted_in (drop k ms)) l ≡ slice_get (noted_in ms) n → Some (j, r) ≡ slice_get (noted_in ms) n
-this_noted ms k j n l m r h e f z g = (λ v. slice_get (noted_in (sym (step ms k m h e ∙ ap (λ z. z ∷ drop (k + 1) ms) f) v)) (sym z v)) ∙ g
-
-pub none_noted : (ms : List Mark) (k n l : ℕ) → length ms ≤ k → slice_get (noted_in (drop k ms)) l ≡ slice_get (noted_in ms) n → None ≡ slice_get (noted_in ms) n
-none_noted ms k n l h g = ap (λ z. slice_get (noted_in z) l) (sym (drop_all k ms h)) ∙ g
 
 tests_noted : (ss : List Part) (t : Tree) (ms : List Mark) (k : ℕ) → slice_get (tests_in (entries ss t ms)) k ≡ option_map (λ n. (ask_at (part_at ss n.0), run_at ss t n.1)) (slice_get (noted_in ms) k)
 tests_noted ss t [] k = refl

@@ -52,9 +52,3 @@ mark_fits ss t (Noted i r) = has_test (part_at ss i) && fits ss t r && may_lend 
 abbrev pub all_fit : List Part → Tree → List Mark → Bool
 all_fit ss t [] = true
 all_fit ss t (m ∷ ms) = mark_fits ss t m && all_fit ss t ms
-
--- the tests that were noted, in order, each as a part and its run
-abbrev pub noted_in : List Mark → List (ℕ × Taken)
-noted_in [] = []
-noted_in (Bound i r ∷ ms) = noted_in ms
-noted_in (Noted i r ∷ ms) = (i, r) ∷ noted_in ms

@@ -41,7 +41,7 @@ Answers ss t old answer.Candidate new = left ss t old ≡ Found (binding ss t ne
 Answers ss t old answer.End new = (left ss t old ≡ []) × (left ss t new ≡ [])
 
 abbrev pub marks_in : State → List Mark
-marks_in (Begun w) = w.trail.items
+marks_in (Begun w) = w.trail.all.items
 marks_in _ = []
 
 abbrev pub SearchesIn : List Part → Tree → State → Type 0

@@ -14,6 +14,7 @@ pub mod Runs
 pub mod Nested
 pub mod Means
 pub mod Plays
+pub mod Listed
 pub mod Kinds
 pub mod Fits
 pub mod Serves

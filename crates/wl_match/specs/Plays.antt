@@ -27,11 +27,11 @@ unfoldable pub goals_of : Walk → List Goal
 goals_of w = goals_at w.stack.cells.items w.goals
 
 unfoldable pub trail_of : List Part → Tree → Walk → Trail
-trail_of ss t w = entries ss t w.trail.items
+trail_of ss t w = entries ss t w.trail.all.items
 
 -- the leaves of the other choices
 unfoldable pub rest : List Part → Tree → Walk → List Leaf
-rest ss t w = after ss t w.stack.cells.items w.trail.items (reverse w.choices.items)
+rest ss t w = after ss t w.stack.cells.items w.trail.all.items (reverse w.choices.items)
 
 abbrev pub now : List Part → Tree → Walk → Search
 now ss t w = conts ss t (goals_of w) (trail_of ss t w)
@@ -48,7 +48,7 @@ pub record Puts (old new : Walk) (gs : List Goal) : Type 0 where
   pub goals : goals_of new ≡ gs ++ goals_of old
   pub trail : (ss : List Part) (t : Tree) → trail_of ss t new ≡ trail_of ss t old
   pub rest_is : (ss : List Part) (t : Tree) → rest ss t new ≡ rest ss t old
-  pub marks : new.trail.items ≡ old.trail.items
+  pub marks : new.trail.all.items ≡ old.trail.all.items
   pub fits : (ss : List Part) (t : Tree) → All (GoalFits ss t) gs → Fits ss t old → Fits ss t new
 
 -- the goals, after this one, were kept as a choice
@@ -56,7 +56,7 @@ pub record Keeps (old new : Walk) (g : Goal) : Type 0 where
   pub goals : goals_of new ≡ goals_of old
   pub trail : (ss : List Part) (t : Tree) → trail_of ss t new ≡ trail_of ss t old
   pub rest_is : (ss : List Part) (t : Tree) → rest ss t new ≡ leaves (conts ss t (g ∷ goals_of old) (trail_of ss t old)) ++ rest ss t old
-  pub marks : new.trail.items ≡ old.trail.items
+  pub marks : new.trail.all.items ≡ old.trail.all.items
   pub fits : (ss : List Part) (t : Tree) → GoalFits ss t g → Fits ss t old → Fits ss t new
 
 pub record Marks (old new : Walk) (m : Mark) : Type 0 where

@@ -81,7 +81,7 @@ GoalFits ss t (Note i r) = IsTrue (mark_fits ss t (Noted i r))
 
 pub record Fits (ss : List Part) (t : Tree) (w : Walk) : Type 0 where
   pub cells : All (λ c. GoalFits ss t c.goal) w.stack.cells.items
-  pub trail : IsTrue (all_fit ss t w.trail.items)
+  pub trail : IsTrue (all_fit ss t w.trail.all.items)
 
 -- the head and the elements of a node that part i is
 abbrev pub NodeServes : List Part → ℕ → ℕ → Type 0

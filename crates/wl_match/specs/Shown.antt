@@ -26,7 +26,7 @@ subject_in v = v.subject.now
 
 -- what the candidate has bound and noted
 abbrev pub trail_in : View → Trail
-trail_in v = entries v.pattern.now (plain v.subject.now) v.trail.now
+trail_in v = entries v.pattern.now (plain v.subject.now) v.trail.all.now
 
 -- the tests that were noted, in order, each with its run
 abbrev pub tests_in : Trail → List (Ask × List Tree)

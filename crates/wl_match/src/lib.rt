@@ -20,6 +20,7 @@ mod sorts;
 mod stack;
 mod steps;
 mod taken;
+mod trace;
 mod view;
 mod viewing;
 mod walk;

@@ -381,7 +381,7 @@ impl Walk {
         ensures plays { IfOk result (λ s. Expands pattern.now (plain subject.now) self.old (Goal.Bind i run.now) s self.new) }
         ensures fits { IfOk result (λ _. Steady pattern.now (plain subject.now) (Goal.Bind i run.now) self.old self.new) }
     {
-        match pattern.find_bound(self.trail.as_slice(), i) {
+        match pattern.find_bound(&self.trail.as_lent(), i) {
             Some(other) => {
                 let two = lend(pattern, subject, run);
                 let is_same = lend(pattern, subject, other).same(&two);

@@ -5,7 +5,7 @@ ghost use Rattle.wl_match.specs.Fits.{all_fit};
 
 use crate::lent::Run;
 use crate::pattern::Pattern;
-use crate::taken::Mark;
+use crate::trace::LentTrace;
 use wl_expr::Expr;
 
 /// A test that a candidate asks for.
@@ -24,6 +24,6 @@ pub enum Test<'m, 'a> {
 pub struct View<'m, 'a> {
     pub(crate) pattern: &'a Pattern,
     pub(crate) subject: &'a Expr,
-    pub(crate) trail: &'m [Mark],
-    ghost lendable: { IsTrue (all_fit pattern.now (plain subject.now) trail.now) },
+    pub(crate) trail: LentTrace<'m>,
+    ghost lendable: { IsTrue (all_fit pattern.now (plain subject.now) trail.all.now) },
 }

@@ -4,7 +4,7 @@ ghost use Rattle.std.specs.List.{All};
 ghost use Rattle.std.specs.Option.{option_map};
 ghost use Rattle.wl_expr.specs.Passed.{IsFrom};
 ghost use Rattle.wl_expr.specs.Stamped.{Stamped, plain};
-ghost use Rattle.wl_match.specs.Fits.{fits, has_test, kind_at, noted_in};
+ghost use Rattle.wl_match.specs.Fits.{fits, has_test, kind_at};
 ghost use Rattle.wl_match.specs.Kinds.{IsOfKind, IsProper, kind_of, of_name, of_test};
 ghost use Rattle.wl_match.specs.Left.{Searches, binding, marks_in};
 ghost use Rattle.wl_match.specs.Means.{ask_at};
@@ -19,7 +19,8 @@ use crate::lent::{Run, args_of, element_at, some_of, tree_at};
 use crate::machine::{Machine, State};
 use crate::part::Part;
 use crate::pattern::Pattern;
-use crate::taken::{Mark, Taken};
+use crate::taken::Taken;
+use crate::trace::LentTrace;
 use crate::view::{Test, View};
 use wl_expr::Expr;
 
@@ -55,33 +56,14 @@ fn shown<'m, 'a>(pattern: &'a Pattern, subject: &'a Expr, run: &'m Taken) -> Run
     }
 }
 
-fn marks(machine: &Machine) -> &[Mark]
-    ensures { result.now ≡ marks_in machine.now.state }
+fn marks(machine: &Machine) -> LentTrace<'_>
+    ensures { result.all.now ≡ marks_in machine.now.state }
 {
     match &machine.state {
-        State::Begun(walk) => walk.trail.as_slice(),
-        State::Fresh(_) => &[],
-        State::Dead => &[],
+        State::Begun(walk) => walk.trail.as_lent(),
+        State::Fresh(_) => LentTrace::none(),
+        State::Dead => LentTrace::none(),
     }
-}
-
-/// The test with this number among those of a trail: its part, and its run.
-fn noted(trail: &[Mark], k: u32) -> Option<(usize, &Taken)>
-    ensures { option_map (λ n. (n.0, n.1.now)) result ≡ slice_get (noted_in trail.now) k }
-{
-    let mut left = k;
-    for mark in trail {
-        match mark {
-            Mark::Bound(_, _) => {}
-            Mark::Noted(i, run) => {
-                if left == 0 {
-                    return Some((*i, run));
-                }
-                left -= 1;
-            }
-        }
-    }
-    None
 }
 
 /// The test of a part on a run.
@@ -122,7 +104,7 @@ impl<'m, 'a> View<'m, 'a> {
         ensures kind { IfSome result (λ r. IsOfKind (whole (pattern_in self.now)) (of_name name.now) r) }
         ensures passed { (ms : List Stamped) → AreFrom ms self.now → IfSome result (λ r. IsRunFrom ms r) }
     {
-        match self.pattern.find_name(self.trail, name) {
+        match self.pattern.find_name(&self.trail, name) {
             Some(run) => Some(shown(self.pattern, self.subject, run)),
             None => None,
         }
@@ -134,7 +116,7 @@ impl<'m, 'a> View<'m, 'a> {
         ensures kind { IfSome result (λ x. IsTestOfKind (whole (pattern_in self.now)) x) }
         ensures passed { (ms : List Stamped) → AreFrom ms self.now → IfSome result (λ x. IsTestFrom ms x) }
     {
-        let (i, run) = match noted(self.trail, k) {
+        let (i, run) = match self.trail.test(k) {
             Some(noted) => noted,
             None => return None,
         };

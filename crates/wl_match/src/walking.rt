@@ -7,6 +7,7 @@ ghost use Rattle.wl_match.specs.Plays.{FirstChoice, IsEmpty, Keeps, Marks, Puts,
 
 use crate::stack::Stack;
 use crate::taken::{Choice, Goal, Mark};
+use crate::trace::Trace;
 use crate::walk::Walk;
 use std::alloc::Global;
 use wl_ports::Memory;
@@ -30,21 +31,6 @@ fn last(choices: &mut Vec<Choice>) -> Option<Choice>
     }
 }
 
-fn count(marks: &Vec<Mark>) -> usize
-    ensures { result ≡ length marks.now.items }
-{
-    marks.as_slice().len()
-}
-
-/// Adds to a trail.
-fn note(trail: &mut Vec<Mark>, mark: Mark) -> Result<(), Memory>
-    ensures { MatchResult result (λ _. trail.new.items ≡ trail.old.items ++ mark ∷ [])
-        (λ _. trail.new.items ≡ trail.old.items) }
-{
-    trail.push(mark)?;
-    Ok(())
-}
-
 impl Walk {
     pub fn new(alloc: Global) -> Walk
         ensures { IsEmpty result }
@@ -53,7 +39,7 @@ impl Walk {
             alloc,
             stack: Stack::new(alloc),
             goals: 0,
-            trail: Vec::new(alloc),
+            trail: Trace::new(alloc),
             choices: Vec::new(alloc),
         }
     }
@@ -72,7 +58,7 @@ impl Walk {
     {
         let goals = self.stack.put(goal, self.goals)?;
         let cells = self.stack.len();
-        let marks = count(&self.trail);
+        let marks = self.trail.len();
         add(
             &mut self.choices,
             Choice {
@@ -87,7 +73,7 @@ impl Walk {
     pub fn mark(&mut self, mark: Mark) -> Result<(), Memory>
         ensures { IfOk result (λ _. Marks self.old self.new mark) }
     {
-        note(&mut self.trail, mark)?;
+        self.trail.push(mark)?;
         Ok(())
     }
 

@@ -8,18 +8,18 @@ use Rattle.wl_match.proofs.Views as views
 use Rattle.wl_match.proofs.view.View.test.Goals as goal
 
 pub returns-in-None-clause-test : goal.returns-in-None-clause-test
-returns-in-None-clause-test c = views.past_tests c.args.self.now.pattern.now (plain c.args.self.now.subject.now) c.args.self.now.trail.now c.args.k c.in-None.ensures
+returns-in-None-clause-test c = views.past_tests c.args.self.now.pattern.now (plain c.args.self.now.subject.now) c.args.self.now.trail.all.now c.args.k c.in-None.ensures
 
 pub returns-in-Some-part-clause-test : goal.returns-in-Some-part-clause-test
 returns-in-Some-part-clause-test c =
     let v = c.args.self.now in
-    let f = views.noted_fits v.pattern.now (plain v.subject.now) v.trail.now c.args.k _ _ c.in-Some.ensures v.lendable in
-    views.given v.pattern.now (plain v.subject.now) v.trail.now c.args.k _ _ _ c.test_of.result _ c.in-Some.ensures c.in-Some-part.ensures.part (c.shown.ensures.trees f.1.0) c.test_of.ensures.asks f.0
+    let f = views.noted_fits v.pattern.now (plain v.subject.now) v.trail.all.now c.args.k _ _ c.in-Some.ensures v.lendable in
+    views.given v.pattern.now (plain v.subject.now) v.trail.all.now c.args.k _ _ _ c.test_of.result _ c.in-Some.ensures c.in-Some-part.ensures.part (c.shown.ensures.trees f.1.0) c.test_of.ensures.asks f.0
 
 pub returns-in-Some-part-clause-kind : goal.returns-in-Some-part-clause-kind
 returns-in-Some-part-clause-kind c =
     let v = c.args.self.now in
-    let f = views.noted_fits v.pattern.now (plain v.subject.now) v.trail.now c.args.k _ _ c.in-Some.ensures v.lendable in
+    let f = views.noted_fits v.pattern.now (plain v.subject.now) v.trail.all.now c.args.k _ _ c.in-Some.ensures v.lendable in
     c.test_of.ensures.kind (whole v.pattern.now) (
       (λ i. lends (whole v.pattern.now) One (of_test (ask_at (sym c.in-Some-part.ensures.part i))) (c.shown.ensures.kind i)) ∙ f.1.1,
       c.shown.ensures.proper f.1.0,
@@ -32,5 +32,5 @@ returns-in-Some-part-clause-passed c ms h =
 pub returns-in-None-part-clause-test : goal.returns-in-None-part-clause-test
 returns-in-None-part-clause-test c =
     let v = c.args.self.now in
-    let f = views.noted_fits v.pattern.now (plain v.subject.now) v.trail.now c.args.k _ _ c.in-Some.ensures v.lendable in
+    let f = views.noted_fits v.pattern.now (plain v.subject.now) v.trail.all.now c.args.k _ _ c.in-Some.ensures v.lendable in
     absurd (views.no_test v.pattern.now _ _ c.in-None-part.ensures.part refl f.0)
