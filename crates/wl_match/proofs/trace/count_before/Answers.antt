@@ -1,4 +1,4 @@
-use Rattle.std.proofs.Common.{◌≢◌, ◌≤◌, ◌-◌, length, refl, arith}
+use Rattle.std.proofs.Common.{◌≢◌, ◌-◌, refl, arith}
 use Rattle.wl_match.proofs.Listings as listings
 use Rattle.wl_match.proofs.trace.count_before.Goals as goal
 

@@ -1,4 +1,4 @@
-use Rattle.std.proofs.Common.{◌≡◌, ◌<◌, ap, length, get_or, ◌∙◌, subst, sym}
+use Rattle.std.proofs.Common.{◌<◌, ap, length, get_or, ◌∙◌, subst, sym}
 use Rattle.wl_match.specs.Listed.{is_noted}
 use Rattle.wl_match.proofs.Listings as listings
 use Rattle.wl_match.proofs.trace.LentTrace.test.Goals as goal
