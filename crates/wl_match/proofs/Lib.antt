@@ -1,3 +1,7 @@
+pub mod Fitting
+pub mod Keeping
+pub mod Views
+pub mod Listings
 pub mod Grafts
 pub mod FormsLemmas
 pub mod HeadsLemmas

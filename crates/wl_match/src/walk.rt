@@ -3,7 +3,8 @@ ghost use Rattle.std.specs.Prelude.{length, reverse};
 ghost use Rattle.wl_match.specs.Nested.{IsWhole, IsWhole-prop};
 
 use crate::stack::Stack;
-use crate::taken::{Choice, Mark};
+use crate::taken::Choice;
+use crate::trace::Trace;
 use std::alloc::Global;
 
 #[derive(Drop)]
@@ -11,7 +12,7 @@ pub(crate) struct Walk {
     pub alloc: Global,
     pub stack: Stack,
     pub goals: usize,
-    pub trail: Vec<Mark>,
+    pub trail: Trace,
     pub choices: Vec<Choice>,
-    ghost nested: { IsWhole goals (length stack.cells.items) (length trail.items) (reverse choices.items) } by { IsWhole-prop _ _ _ _ },
+    ghost nested: { IsWhole goals (length stack.cells.items) (length trail.all.items) (reverse choices.items) } by { IsWhole-prop _ _ _ _ },
 }

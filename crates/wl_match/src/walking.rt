@@ -1,9 +1,13 @@
 //! The moves of a walk.
 ghost use Rattle.std.specs.Prelude.{◌≡◌, ◌++◌, ◌∷◌, [], List, length, reverse, IfOk, MatchResult};
+ghost use Rattle.wl_expr.specs.Tree.{Tree};
+ghost use Rattle.wl_match.specs.declared.part.Part.{Part};
+ghost use Rattle.wl_match.specs.Serves.{Fits};
 ghost use Rattle.wl_match.specs.Plays.{FirstChoice, IsEmpty, Keeps, Marks, Puts, Returns, Takes};
 
 use crate::stack::Stack;
 use crate::taken::{Choice, Goal, Mark};
+use crate::trace::Trace;
 use crate::walk::Walk;
 use std::alloc::Global;
 use wl_ports::Memory;
@@ -27,21 +31,6 @@ fn last(choices: &mut Vec<Choice>) -> Option<Choice>
     }
 }
 
-fn count(marks: &Vec<Mark>) -> usize
-    ensures { result ≡ length marks.now.items }
-{
-    marks.as_slice().len()
-}
-
-/// Adds to a trail.
-fn note(trail: &mut Vec<Mark>, mark: Mark) -> Result<(), Memory>
-    ensures { MatchResult result (λ _. trail.new.items ≡ trail.old.items ++ mark ∷ [])
-        (λ _. trail.new.items ≡ trail.old.items) }
-{
-    trail.push(mark)?;
-    Ok(())
-}
-
 impl Walk {
     pub fn new(alloc: Global) -> Walk
         ensures { IsEmpty result }
@@ -50,7 +39,7 @@ impl Walk {
             alloc,
             stack: Stack::new(alloc),
             goals: 0,
-            trail: Vec::new(alloc),
+            trail: Trace::new(alloc),
             choices: Vec::new(alloc),
         }
     }
@@ -69,7 +58,7 @@ impl Walk {
     {
         let goals = self.stack.put(goal, self.goals)?;
         let cells = self.stack.len();
-        let marks = count(&self.trail);
+        let marks = self.trail.len();
         add(
             &mut self.choices,
             Choice {
@@ -84,7 +73,7 @@ impl Walk {
     pub fn mark(&mut self, mark: Mark) -> Result<(), Memory>
         ensures { IfOk result (λ _. Marks self.old self.new mark) }
     {
-        note(&mut self.trail, mark)?;
+        self.trail.push(mark)?;
         Ok(())
     }
 
@@ -103,7 +92,8 @@ impl Walk {
 
     /// Goes back to the last choice.
     pub fn back(&mut self) -> bool
-        ensures { Returns self.old self.new result }
+        ensures returns { Returns self.old self.new result }
+        ensures fits { (ss : List Part) (t : Tree) → Fits ss t self.old → Fits ss t self.new }
     {
         match last(&mut self.choices) {
             None => false,
