@@ -7,3 +7,7 @@ mod Splits
 mod Splices
 mod Threads
 mod Parameters
+mod Members
+mod Agreement
+mod Reaching
+mod Formals

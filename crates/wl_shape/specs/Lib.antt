@@ -10,3 +10,4 @@ pub mod Elements
 -- What serves the proofs.
 pub mod Locals
 pub mod Renewed
+pub mod Standing
