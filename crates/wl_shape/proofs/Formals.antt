@@ -8,7 +8,7 @@ use Rattle.wl_shape.specs.Scopes.{Local, Needs, values, names, function_names, l
 use Rattle.wl_shape.specs.Standing.{IsNotLarger}
 use Rattle.wl_shape.specs.Fill.{Values, filled_symbol, fill, fill_first, fill_formal, fill_formals, parameter}
 use Rattle.wl_shape.proofs.Members.{among_one, one_name, or_either}
-use Rattle.wl_shape.proofs.Reaching.{AreNotLarger, args_stand, either, first_stands, head_stands, others_stand}
+use Rattle.wl_shape.proofs.Standings.{AreNotLarger, args_stand, either, first_stands, head_stands, others_stand}
 
 -- the name of a parameter `x` or `x = v`
 abbrev formal_name : Tree → Option Name

@@ -8,6 +8,8 @@ mod Splices
 mod Threads
 mod Parameters
 mod Members
+mod Sets
+mod Meetings
 mod Agreement
-mod Reaching
+mod Standings
 mod Formals

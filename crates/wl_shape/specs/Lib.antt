@@ -11,3 +11,4 @@ pub mod Elements
 pub mod Locals
 pub mod Renewed
 pub mod Standing
+pub mod Names

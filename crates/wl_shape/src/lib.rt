@@ -4,6 +4,8 @@
 mod arrangement;
 mod element;
 pub mod laws;
+mod names;
+mod reaching;
 mod renewal;
 mod scopes;
 mod splicing;

@@ -43,7 +43,7 @@ fn are_names(elements: &[Expr]) -> bool
 
 /// The two elements, where there are two.
 #[tactic(auto, using(crate::proofs::Parameters::these_two, crate::proofs::Parameters::not_two))]
-fn two(args: &[Expr]) -> Option<(&Expr, &Expr)>
+pub(crate) fn two(args: &[Expr]) -> Option<(&Expr, &Expr)>
     ensures { option_map (λ p. (plain p.0.now, plain p.1.now)) result ≡ two_of (plains (from_list args.now)) }
 {
     if args.len() != 2 {
