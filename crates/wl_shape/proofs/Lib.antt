@@ -10,6 +10,7 @@ mod Parameters
 mod Members
 mod Sets
 mod Meetings
+mod Holdings
 mod Agreement
 mod Standings
 mod Formals

@@ -12,3 +12,4 @@ pub mod Locals
 pub mod Renewed
 pub mod Standing
 pub mod Names
+pub mod Held

@@ -10,6 +10,7 @@ mod renewal;
 mod scopes;
 mod splicing;
 mod threading;
+mod values;
 
 pub use arrangement::{Shaped, arrange};
 
