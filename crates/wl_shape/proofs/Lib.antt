@@ -9,6 +9,8 @@ mod Threads
 mod Parameters
 mod Members
 mod Sets
+mod Fresh
+mod Renamings
 mod Meetings
 mod Holdings
 mod Agreement

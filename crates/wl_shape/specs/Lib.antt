@@ -13,3 +13,4 @@ pub mod Renewed
 pub mod Standing
 pub mod Names
 pub mod Held
+pub mod Entering

@@ -6,6 +6,7 @@ mod element;
 pub mod laws;
 mod names;
 mod reaching;
+mod renaming;
 mod renewal;
 mod scopes;
 mod splicing;

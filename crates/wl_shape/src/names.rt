@@ -1,5 +1,6 @@
 //! Sets of names: those that stand in an expression.
 ghost use Rattle.std.specs.Prelude.{◌≡◌, ◌||◌, IfOk, OnOk};
+ghost use Rattle.std.specs.List.{list_any};
 ghost use Rattle.wl_expr.specs.Stamped.{plain, plains, from_list};
 ghost use Rattle.wl_expr.specs.Words.{Name};
 ghost use Rattle.wl_shape.specs.Fill as fill;
@@ -18,6 +19,18 @@ pub(crate) fn has(names: &Names, symbol: &Expr) -> bool
     ensures { result ≡ has_tree names.now.keys (plain symbol.now) }
 {
     names.contains(symbol)
+}
+
+/// Whether one of the symbols is in the set.
+pub(crate) fn has_any(names: &Names, symbols: &[Expr]) -> bool
+    ensures { result ≡ list_any (λ e. has_tree names.now.keys (plain e)) symbols.now }
+{
+    for symbol in symbols {
+        if has(names, symbol) {
+            return true;
+        }
+    }
+    false
 }
 
 /// Adds the symbol.

@@ -1,14 +1,13 @@
 //! The names that filling reaches in an expression: not those that a scope shadows, and not the parameters themselves.
 ghost use Rattle.std.specs.Prelude.{◌≡◌, ◌&&◌, ◌∷◌, [], IfOk, length, not, OnOk};
-ghost use Rattle.std.specs.List.{list_any};
 ghost use Rattle.wl_expr.specs.Same.{is_name_among};
 ghost use Rattle.wl_expr.specs.Stamped.{plain, plains, from_list};
 ghost use Rattle.wl_expr.specs.Words.{Name};
 ghost use Rattle.wl_shape.specs.Answers.{trees};
 ghost use Rattle.wl_shape.specs.Fill as fill;
-ghost use Rattle.wl_shape.specs.Names.{has_name, has_tree, HasMet, keys_or, names_in};
+ghost use Rattle.wl_shape.specs.Names.{has_name, HasMet, keys_or, names_in};
 
-use crate::names::{Names, has, put, set_of};
+use crate::names::{Names, has, has_any, put, set_of};
 use crate::scopes::{parameters, two};
 use indexmap::IndexSet;
 use std::alloc::Global;
@@ -33,18 +32,6 @@ fn reach_symbol(targets: &Names, symbol: &Expr, met: &mut Names) -> Result<(), M
         put(met, symbol)?;
     }
     Ok(())
-}
-
-/// Whether one of the symbols is in the set.
-fn has_any(names: &Names, symbols: &[Expr]) -> bool
-    ensures { result ≡ list_any (λ e. has_tree names.now.keys (plain e)) symbols.now }
-{
-    for symbol in symbols {
-        if has(names, symbol) {
-            return true;
-        }
-    }
-    false
 }
 
 /// The targets without these names; None where none of these is a target.
