@@ -113,7 +113,7 @@ none_of ts es e x true b p q n h r = cc
 none_of ts es e x false true p q n h r = ap (has_tree ts) ((same_decides (symbol x) (plain e)).0 q) ∙ p
 none_of ts es e x false false p q n h r = r n h
 
-none_is : (ts es : List Stamped) (x : Name) → list_any (λ e. has_tree ts (plain e)) es ≡ false → has_name es x ≡ true → has_name ts x ≡ false
+pub none_is : (ts es : List Stamped) (x : Name) → list_any (λ e. has_tree ts (plain e)) es ≡ false → has_name es x ≡ true → has_name ts x ≡ false
 none_is ts [] x n h = cc
 none_is ts (e ∷ es) x n h = none_of ts es e x (has_tree ts (plain e)) (same (symbol x) (plain e)) refl refl n h (none_is ts es x)
 
