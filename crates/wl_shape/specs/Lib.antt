@@ -14,3 +14,4 @@ pub mod Standing
 pub mod Names
 pub mod Held
 pub mod Entering
+pub mod Walks

@@ -12,6 +12,7 @@ mod scopes;
 mod splicing;
 mod threading;
 mod values;
+mod walk;
 
 pub use arrangement::{Shaped, arrange};
 

@@ -1,5 +1,5 @@
 //! Nodes of parts that are new and parts that stay. Where all stay, nothing is made.
-ghost use Rattle.std.specs.Prelude.{◌≡◌, ◌++◌, drop, IfOk, IfSome, List, OnOk, unwrap_or, vec_len};
+ghost use Rattle.std.specs.Prelude.{◌≡◌, ◌++◌, ◌∷◌, [], drop, IfOk, IfSome, length, List, OnOk, unwrap_or, vec_len};
 ghost use Rattle.wl_expr.specs.Passed.{IsFrom};
 ghost use Rattle.wl_expr.specs.Stamped.{Stamped, plain};
 ghost use Rattle.wl_expr.specs.Words.{applied};
@@ -31,6 +31,27 @@ pub(crate) fn renewed(all: Vec<Expr>, args: &[Expr]) -> Result<Option<Vec<Expr>>
     let mut all = all;
     catch_up(&mut all, args)?;
     Ok(Some(all))
+}
+
+/// The two elements, of which these are new; None where none is.
+pub(crate) fn renewed_pair(
+    alloc: Global,
+    args: &[Expr],
+    first: Option<Expr>,
+    second: Option<Expr>,
+) -> Result<Option<Vec<Expr>>, Memory>
+    requires { length args.now ≡ 2 }
+    ensures value { (a b : Stamped) → args.now ≡ a ∷ b ∷ [] → IfOk result (λ o. elements_or o args.now ≡ unwrap_or first a ∷ unwrap_or second b ∷ []) }
+{
+    let mut all = Vec::new(alloc);
+    if let Some(first) = first {
+        all.push(first)?;
+    }
+    if let Some(second) = second {
+        catch_up(&mut all, &args[..1])?;
+        all.push(second)?;
+    }
+    renewed(all, args)
 }
 
 /// The node of what is new and of what stays; None where all stays.
