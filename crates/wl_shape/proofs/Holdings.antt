@@ -9,14 +9,16 @@ use Rattle.std.specs.Prelude.{Option, Some, None, IfSome, option_copied, option_
 use Rattle.std.specs.declared.alloc.Global.{Global}
 use Rattle.std.specs.declared.rc.Rc.{Rc}
 use Rattle.indexmap.specs.IndexMap.{insert_entry}
-use Rattle.wl_expr.specs.Same.{same, same_decides, same_equivalence}
+use Rattle.wl_expr.specs.Same.{same, same_decides, is_name_among}
 use Rattle.wl_expr.specs.Stamped.{Stamped, plain}
 use Rattle.wl_expr.specs.Tree.{Tree, symbol}
 use Rattle.wl_expr.specs.Words.{Name}
+use Rattle.wl_shape.specs.Fill.{names, value_names}
 use Rattle.wl_shape.specs.Held.{Entry, IsApart, IsKnown, IsReady, found, put_value, value_tree, values_in}
 use Rattle.wl_shape.specs.Names.{has_name, has_tree, HasOneMore}
 use Rattle.wl_shape.specs.declared.values.Value.{Value}
 use Rattle.wl_shape.specs.declared.values.Values.{Values}
+use Rattle.wl_shape.proofs.Fillings.{IsClear}
 use Rattle.wl_shape.proofs.Members.{or_false}
 use Rattle.wl_shape.proofs.Sets.{alike}
 use Rattle.wl_shape.proofs.Splits.{next_of}
@@ -137,3 +139,25 @@ copied P (Some r) h = h
 
 pub got : (P : Held → Type 0) (t : Tree) (es : List Entry) (o : Option (Bor Held)) → option_copied o ≡ lookup (λ k. same t (plain k)) es → All (λ (p : Entry). P p.1) es → IfSome o (λ r. P r.now)
 got P t es o e all = copied P o (subst (λ p. IfSome p P) (sym e) (All-lookup P (λ k. same t (plain k)) es all))
+
+-- ---- a name that isn't near
+
+apart_first : (x : Name) (e : Entry) (o : Option Held) → same (symbol x) (plain e.0) ≡ false → option_map value_tree o ≡ None → option_map value_tree (cond (same (symbol x) (plain e.0)) (Some e.1) o) ≡ None
+apart_first x e o p h = ap (λ b. option_map value_tree (cond b (Some e.1) o)) p ∙ h
+
+unvalued : (x : Name) (es : List Entry) → All (IsApart x) es → found es (symbol x) ≡ None
+unvalued x [] a = refl
+unvalued x (e ∷ es) a = apart_first x e (lookup (λ k. same (symbol x) (plain k)) es) (All-head (IsApart x) e es a).0 (unvalued x es (All-tail (IsApart x) e es a))
+
+outside_first : (b : Bool) (x : Name) (e : Entry) (o : Option Held) → is_name_among x (names (value_tree e.1)) ≡ false → is_name_among x (value_names (option_map value_tree o)) ≡ false → is_name_among x (value_names (option_map value_tree (cond b (Some e.1) o))) ≡ false
+outside_first true x e o p h = p
+outside_first false x e o p h = h
+
+outside : (x : Name) (t : Tree) (es : List Entry) → All (IsApart x) es → All (λ (p : Entry). IsKnown p.1.value) es → is_name_among x (value_names (found es t)) ≡ false
+outside x t [] a k = refl
+outside x t (e ∷ es) a k =
+    outside_first (same t (plain e.0)) x e (lookup (λ k. same t (plain k)) es) (sym (All-head (λ (p : Entry). IsKnown p.1.value) e es k x) ∙ (All-head (IsApart x) e es a).1)
+    (outside x t es (All-tail (IsApart x) e es a) (All-tail (λ (p : Entry). IsKnown p.1.value) e es k))
+
+pub clear : (v : Values) (x : Name) → IsReady v → has_name v.near.keys x ≡ false → IsClear (values_in v) x
+clear v x r h = record { unvalued = unvalued x v.map.entries (r.apart x h); outside = λ y. outside x (symbol y) v.map.entries (r.apart x h) r.known }

@@ -168,25 +168,25 @@ reached_in_scope h ts us e = sym (ap (λ o. reached h ++ elim o [ None ↦ reach
 pub reached_in_node : (h : Tree) (ts : Trees) → ◌≡◌ {A = Option (List Tree)} None (symbols_in (parameters h ts)) → reached h ++ reached_all ts ≡ reached (node h ts)
 reached_in_node h ts e = sym (ap (λ o. reached h ++ elim o [ None ↦ reached_all ts | Some xs ↦ reached_scope xs ts ]) (no_parameters (parameters h ts) e))
 
-no_scope : (h : Tree) → parameters h none ≡ None
+pub no_scope : (h : Tree) → parameters h none ≡ None
 no_scope (num n) = refl
 no_scope (text s) = refl
 no_scope (symbol x) = refl
 no_scope (node g us) = refl
 
-no_scope_of_one : (h t : Tree) → parameters h (more t none) ≡ None
+pub no_scope_of_one : (h t : Tree) → parameters h (more t none) ≡ None
 no_scope_of_one (num n) t = refl
 no_scope_of_one (text s) t = refl
 no_scope_of_one (symbol x) t = refl
 no_scope_of_one (node g us) t = refl
 
-no_scope_of_more : (h t u v : Tree) (ts : Trees) → parameters h (more t (more u (more v ts))) ≡ None
+pub no_scope_of_more : (h t u v : Tree) (ts : Trees) → parameters h (more t (more u (more v ts))) ≡ None
 no_scope_of_more (num n) t u v ts = refl
 no_scope_of_more (text s) t u v ts = refl
 no_scope_of_more (symbol x) t u v ts = refl
 no_scope_of_more (node g us) t u v ts = refl
 
-refuted : {X : Type 0} (us : List Tree) (p : Option (List Name)) → p ≡ None → Some us ≡ symbols_in p → X
+pub refuted : {X : Type 0} (us : List Tree) (p : Option (List Name)) → p ≡ None → Some us ≡ symbols_in p → X
 refuted us p n e = let q : Some us ≡ symbols_in None = e ∙ ap symbols_in n in cc
 
 -- a scope has two elements
