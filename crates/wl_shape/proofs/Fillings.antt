@@ -1,7 +1,7 @@
 -- What is made anew of a filled tree and what stays, part by part.
 use Rattle.std.proofs.Common.{◌≡◌, ℕ, zero, suc, ◌<◌, ◌≤◌, ◌+◌, ◌-◌, max, Bool, true, false, ◌||◌, ◌&&◌, List, [], ◌∷◌, ◌++◌, map, length, get_or, take, drop, append_assoc, length-append, add-one, refl, sym, ap, ◌∙◌, subst, arith}
 use Rattle.std.proofs.lemmas.List.{append-nil, map-append, drop_all, take_all, length-drop}
-use Rattle.std.proofs.lemmas.List.Elements.{All-nil, All-cons, All-head, All-tail, All-append, All-push}
+use Rattle.std.proofs.lemmas.List.Elements.{All-nil, All-cons, All-head, All-tail, All-append, All-drop, All-push, All-take}
 use Rattle.std.specs.List.{All, list_any}
 use Rattle.std.specs.Prelude.{Option, Some, None, Result, Ok, Err, IfOk, IfSome, IsErrAnd, option_map, unwrap_or, codes, bytes_eq}
 use Rattle.std.proofs.lemmas.Result.{err_from_is_err_and}
@@ -60,7 +60,7 @@ drop-push zero xs e l = refl
 drop-push (suc n) [] e l = absurd (omega (arith, l))
 drop-push (suc n) (x ∷ xs) e l = drop-push n xs e (omega (arith, l))
 
-length-taken : (es : List Stamped) (k : ℕ) → k ≤ length es → length (take k es) ≡ k
+pub length-taken : (es : List Stamped) (k : ℕ) → k ≤ length es → length (take k es) ≡ k
 length-taken es zero l = refl
 length-taken [] (suc k) l = absurd (omega (arith, l))
 length-taken (e ∷ es) (suc k) l = ap suc (length-taken es k (omega (arith, l)))
@@ -74,6 +74,14 @@ counted all taken caught after k n few l c a =
     let y : length after ≡ length caught + 1 = ap length a ∙ length-append caught (n ∷ []) in
     let z : length (drop (length all) taken) ≡ length taken - length all = length-drop (length all) taken in
     omega (arith, x, y, z, few, l)
+
+pub few_more : (all taken caught after : List Stamped) (k : ℕ) (n : Stamped) → length all ≤ k → length taken ≡ k → caught ≡ all ++ drop (length all) taken → after ≡ caught ++ n ∷ [] → length after ≤ k + 1
+few_more all taken caught after k n few l c a = let e = counted all taken caught after k n few l c a in omega (arith, e)
+
+pub all_caught : (ms es all caught after : List Stamped) (k : ℕ) (n : Stamped) → caught ≡ all ++ drop (length all) (take k es) → after ≡ caught ++ n ∷ [] → AllFrom ms es → AllFrom ms all → IsFrom ms n → AllFrom ms after
+all_caught ms es all caught after k n c a h f g =
+    subst (AllFrom ms) (sym a) (All-push (IsFrom ms) caught n
+    (subst (AllFrom ms) (sym c) (All-append (IsFrom ms) all (drop (length all) (take k es)) f (All-drop (IsFrom ms) (length all) (take k es) (All-take (IsFrom ms) k es h)))) g)
 
 -- ---- elements, one after another: f fills all of them, g one
 
