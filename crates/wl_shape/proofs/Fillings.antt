@@ -283,7 +283,7 @@ both_filled vs i es new a b f s l p q n first second =
     ∙ (λ j. more ((plain_or f a ∙ first) j) (more ((plain_or s b ∙ second) j) none))
     ∙ sym (ap (fill_scope vs i) (both_of es a b l p q))
 
-from_or : (ms : List Stamped) (o : Option Stamped) (e : Stamped) → IsFrom ms e → IfSome o (IsFrom ms) → IsFrom ms (unwrap_or o e)
+pub from_or : (ms : List Stamped) (o : Option Stamped) (e : Stamped) → IsFrom ms e → IfSome o (IsFrom ms) → IsFrom ms (unwrap_or o e)
 from_or ms None e f h = f
 from_or ms (Some n) e f h = h
 
@@ -310,3 +310,28 @@ formal_filled vs rs h es a b l p q = sym (ap (λ ts. fill_formal vs rs (node h t
 pub setting_filled : (vs rs : Values) (es new : List Stamped) (a b : Stamped) (f s : Option Stamped) → length es ≡ 2 → a ≡ get_or es 0 a → b ≡ get_or es 1 b → (es ≡ a ∷ b ∷ [] → new ≡ unwrap_or f a ∷ unwrap_or s b ∷ [])
     → unwrap_or (option_map plain f) (plain a) ≡ parameter rs (plain a) → unwrap_or (option_map plain s) (plain b) ≡ fill vs (plain b) → plains (from_list new) ≡ more (parameter rs (plain a)) (more (fill vs (plain b)) none)
 setting_filled vs rs es new a b f s l p q n first second = ap (λ us. plains (from_list us)) (n (two_items es a b l p q)) ∙ (λ j. more ((plain_or f a ∙ first) j) (more ((plain_or s b ∙ second) j) none))
+
+pub formal_fits : (vs rs : Values) (h : Tree) (es : List Stamped) → length es ≡ 2 → IsWithinLimits (fill_formal vs rs (node h (plains (from_list es)))) → IsWithinLimits (fill vs h)
+formal_fits vs rs h [] l w = absurd (omega (arith, l))
+formal_fits vs rs h (a ∷ []) l w = absurd (omega (arith, l))
+formal_fits vs rs h (a ∷ b ∷ []) l w = head_fits (fill vs h) (more (parameter rs (plain a)) (more (fill vs (plain b)) none)) w
+formal_fits vs rs h (a ∷ b ∷ d ∷ es) l w = absurd (omega (arith, l))
+
+pub value_fits : (vs rs : Values) (h : Tree) (es : List Stamped) (b : Stamped) → length es ≡ 2 → b ≡ get_or es 1 b → IsWithinLimits (fill_formal vs rs (node h (plains (from_list es)))) → IsWithinLimits (fill vs (plain b))
+value_fits vs rs h [] b l p w = absurd (omega (arith, l))
+value_fits vs rs h (a ∷ []) b l p w = absurd (omega (arith, l))
+value_fits vs rs h (a ∷ d ∷ []) b l p w =
+    let s = args_fit (fill vs h) (more (parameter rs (plain a)) (more (fill vs (plain d)) none)) w in
+    subst (λ x. IsWithinLimits (fill vs (plain x))) (sym p) (first_fits (fill vs (plain d)) none (others_fit (parameter rs (plain a)) (more (fill vs (plain d)) none) s))
+value_fits vs rs h (a ∷ d ∷ e ∷ es) b l p w = absurd (omega (arith, l))
+
+-- the first element, whatever stands for one that isn't there
+pub first_is : (es : List Stamped) (d : Stamped) → length es ≡ 2 → get_or es 0 d ≡ get_or es 0 (get_or es 0 d)
+first_is [] d l = absurd (omega (arith, l))
+first_is (e ∷ es) d l = refl
+
+pub first_small : (vs : Values) (i : Inside) (es : List Stamped) (a : Stamped) → length es ≡ 2 → a ≡ get_or es 0 a → AreSmall (fill_scope vs i (plains (from_list es))) → IsWithinLimits (fill_first vs i.renamed (plain a))
+first_small vs i [] a l p s = absurd (omega (arith, l))
+first_small vs i (d ∷ []) a l p s = absurd (omega (arith, l))
+first_small vs i (d ∷ e ∷ []) a l p s = subst (λ x. IsWithinLimits (fill_first vs i.renamed (plain x))) (sym p) (first_fits (fill_first vs i.renamed (plain d)) (more (fill i.inner (plain e)) none) s)
+first_small vs i (d ∷ e ∷ g ∷ es) a l p s = absurd (omega (arith, l))

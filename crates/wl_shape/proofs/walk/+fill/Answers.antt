@@ -21,7 +21,7 @@ use Rattle.wl_shape.specs.Renewed.{AreRenewed, IsRenewed, elements_or}
 use Rattle.wl_shape.specs.Walks.{AreParameters, fill_elements, has_scope, have_scopes, inside_with, may_be_scope}
 use Rattle.wl_shape.proofs.Agreement.{fill-nothing}
 use Rattle.wl_shape.specs.Scopes.{parameters}
-use Rattle.wl_shape.proofs.Fillings.{IsClear, all-done, all_caught, among_parts, are_parameters, args_fit, both_filled, both_from, changes, each-fits, elements_in_node, elements_in_scope, few_more, length-taken, fault_renews, fault_renews_all, fill_node, formal_filled, head_fits, other_formal, renewed_node, scope_among, scope_filled, scope_is, setting_filled, stays, too_long_first, two_large, untouched}
+use Rattle.wl_shape.proofs.Fillings.{IsClear, all-done, all_caught, among_parts, are_parameters, args_fit, both_filled, both_from, changes, each-fits, elements_in_node, elements_in_scope, few_more, length-taken, fault_renews, fault_renews_all, first_is, formal_fits, value_fits, fill_node, formal_filled, from_or, first_small, head_fits, other_formal, renewed_node, scope_among, scope_filled, scope_is, setting_filled, stays, too_long_first, two_large, untouched}
 use Rattle.wl_shape.proofs.Holdings.{clear}
 use Rattle.wl_shape.proofs.Meetings.{has_name-among, none_is, scope_of_two}
 use Rattle.wl_shape.proofs.Members.{or_left, or_right}
@@ -176,7 +176,7 @@ filled_scope-returns-in_err-scope-clause-made t c =
     let es = c.args.args.now in
     let xs = names_in (trees c.args.names.now) in
     fault_renews_all es (fill_scope vs (inside xs vs (plains (from_list es))) (plains (from_list es))) c.in_err-scope.field-0.0 c.entered.result c.from_residual.result c.in_err-scope.was c.from_residual.ensures.1
-    (λ l. too_long_first vs xs es (get_or es 0 c.index-args-1.result) c.index-args-1.result c.requires.two ? c.index-args-1.is c.requires.parameters (c.entered.ensures.large l))
+    (λ l. too_long_first vs xs es (get_or es 0 c.index-args-1.result) c.index-args-1.result c.requires.two (first_is es c.index-args-1.result c.requires.two) c.index-args-1.is c.requires.parameters (c.entered.ensures.large l))
 
 pub filled_scope-returns-clause-made : goal.filled_scope-returns-clause-made
 filled_scope-returns-clause-made t c =
@@ -184,7 +184,7 @@ filled_scope-returns-clause-made t c =
     let es = c.args.args.now in
     let xs = names_in (trees c.args.names.now) in
     subst (λ us. AreRenewed es us c.filled_pair-2.result)
-    (scope_filled vs (values_in c.in_ok-scope.scope.renamed) (values_in c.in_ok-scope.scope.inner) xs es (get_or es 0 c.index-args-1.result) c.index-args-1.result c.requires.two ? c.index-args-1.is c.in_ok-scope.ensures.renamed c.in_ok-scope.ensures.inner)
+    (scope_filled vs (values_in c.in_ok-scope.scope.renamed) (values_in c.in_ok-scope.scope.inner) xs es (get_or es 0 c.index-args-1.result) c.index-args-1.result c.requires.two (first_is es c.index-args-1.result c.requires.two) c.index-args-1.is c.in_ok-scope.ensures.renamed c.in_ok-scope.ensures.inner)
     c.filled_pair-2.ensures.made
 
 pub filled_scope-returns-clause-passed : goal.filled_scope-returns-clause-passed
@@ -243,3 +243,100 @@ filled_formals-returns-clause-made t c =
 
 pub filled_formals-returns-clause-passed : goal.filled_formals-returns-clause-passed
 filled_formals-returns-clause-passed t c = λ ms f g r. subst (AllFrom ms) (sym c.in_ok-renewed.ensures) (All-append (IsFrom ms) c.loop-k.all.items (drop (length c.loop-k.all.items) c.args.formals.now) (c.loop-k.invariant.passed ms f g r) (All-drop (IsFrom ms) (length c.loop-k.all.items) c.args.formals.now f))
+
+-- ---- two elements
+
+pub filled_pair-returns-in_err-new_first-clause-made : goal.filled_pair-returns-in_err-new_first-clause-made
+filled_pair-returns-in_err-new_first-clause-made t c =
+    let vs = values_in c.args.values.now in
+    let i = inside_with c.args.renamed.now c.args.inner.now in
+    let es = c.args.args.now in
+    fault_renews_all es (fill_scope vs i (plains (from_list es))) c.in_err-new_first.field-0.0 c.filled_first.result c.from_residual.result c.in_err-new_first.was c.from_residual.ensures.1
+    (λ l s. c.filled_first.ensures.made.large l (first_small vs i es c.index-args-0.result c.requires.two c.index-args-0.is s))
+
+pub filled_pair-returns-in_err-new_body-clause-made : goal.filled_pair-returns-in_err-new_body-clause-made
+filled_pair-returns-in_err-new_body-clause-made t c =
+    let vs = values_in c.args.values.now in
+    let i = inside_with c.args.renamed.now c.args.inner.now in
+    let es = c.args.args.now in
+    fault_renews_all es (fill_scope vs i (plains (from_list es))) c.in_err-new_body.field-0.0 c.filled.result c.from_residual-in_err-new_body.result c.in_err-new_body.was c.from_residual-in_err-new_body.ensures.1
+    (λ l s. c.filled.ensures.made.large l (two_large vs i es c.index-args-0.result c.index-args-1.result c.requires.two c.index-args-0.is c.index-args-1.is s).1)
+
+pub filled_pair-returns-clause-made : goal.filled_pair-returns-clause-made
+filled_pair-returns-clause-made t c =
+    let vs = values_in c.args.values.now in
+    let i = inside_with c.args.renamed.now c.args.inner.now in
+    let es = c.args.args.now in
+    let a = c.index-args-0.result in
+    let b = c.index-args-1.result in
+    record {
+      elements = both_filled vs i es (elements_or c.in_ok-renewed_pair.field-0 es) a b c.in_ok-new_first.new_first c.in_ok-new_body.new_body c.requires.two c.index-args-0.is c.index-args-1.is (c.in_ok-renewed_pair.ensures.value a b)
+          c.in_ok-new_first.ensures.made.tree c.in_ok-new_body.ensures.made.tree;
+      large = λ l. cc;
+    }
+
+pub filled_pair-returns-clause-passed : goal.filled_pair-returns-clause-passed
+filled_pair-returns-clause-passed t c = λ ms h f r i.
+    let es = c.args.args.now in
+    let a = c.index-args-0.result in
+    let b = c.index-args-1.result in
+    both_from ms es (elements_or c.in_ok-renewed_pair.field-0 es) a b c.in_ok-new_first.new_first c.in_ok-new_body.new_body c.requires.two c.index-args-0.is c.index-args-1.is (c.in_ok-renewed_pair.ensures.value a b) h
+    (λ x. c.in_ok-new_first.ensures.passed ms x f r) (λ y. c.in_ok-new_body.ensures.passed ms y i)
+
+pub filled_first-returns-in_ok-new_formals-in-Node-clause-made : goal.filled_first-returns-in_ok-new_formals-in-Node-clause-made
+filled_first-returns-in_ok-new_formals-in-Node-clause-made t c =
+    let vs = values_in c.args.values.now in
+    let rs = values_in c.args.renamed.now in
+    let h = plain c.in-Node.head.now in
+    let us = plains (from_list c.in-Node.formals.now) in
+    renewed_node c.in-Node.head.now c.in-Node.formals.now c.in_ok-new_head-in-Node.new_head c.in_ok-new_formals-in-Node.new_formals c.rebuilt.result (plain c.args.first.now) (fill_first vs rs (plain c.args.first.now)) (fill vs h) (fill_formals vs rs us)
+    c.in-Node.ensures.plain (ap (fill_first vs rs) c.in-Node.ensures.plain) c.in_ok-new_head-in-Node.ensures.made.tree c.in_ok-new_formals-in-Node.ensures.made.elements c.rebuilt.ensures.made
+
+-- ---- `x = v`
+
+pub filled_setting-returns-then-parts-ne2-clause-made : goal.filled_setting-returns-then-parts-ne2-clause-made
+filled_setting-returns-then-parts-ne2-clause-made t c = record {
+  tree = other_formal (values_in c.args.values.now) (values_in c.args.renamed.now) (plain c.args.head.now) c.args.parts.now c.if-parts-ne2.true;
+  large = λ l. cc;
+}
+
+pub filled_setting-returns-in_err-new_head-clause-made : goal.filled_setting-returns-in_err-new_head-clause-made
+filled_setting-returns-in_err-new_head-clause-made t c =
+    let vs = values_in c.args.values.now in
+    let rs = values_in c.args.renamed.now in
+    let h = plain c.args.head.now in
+    let es = c.args.parts.now in
+    fault_renews (node h (plains (from_list es))) (fill_formal vs rs (node h (plains (from_list es)))) c.in_err-new_head.field-0.0 c.filled.result c.from_residual.result c.in_err-new_head.was c.from_residual.ensures.1
+    (λ l w. c.filled.ensures.made.large l (formal_fits vs rs h es (omega (arith, c.if-parts-ne2.false)) w))
+
+pub filled_setting-returns-in_err-new_value-clause-made : goal.filled_setting-returns-in_err-new_value-clause-made
+filled_setting-returns-in_err-new_value-clause-made t c =
+    let vs = values_in c.args.values.now in
+    let rs = values_in c.args.renamed.now in
+    let h = plain c.args.head.now in
+    let es = c.args.parts.now in
+    fault_renews (node h (plains (from_list es))) (fill_formal vs rs (node h (plains (from_list es)))) c.in_err-new_value.field-0.0 c.filled-2.result c.from_residual-in_err-new_value.result c.in_err-new_value.was c.from_residual-in_err-new_value.ensures.1
+    (λ l w. c.filled-2.ensures.made.large l (value_fits vs rs h es c.index-parts-1.result (omega (arith, c.if-parts-ne2.false)) c.index-parts-1.is w))
+
+pub filled_setting-returns-clause-made : goal.filled_setting-returns-clause-made
+filled_setting-returns-clause-made t c =
+    let vs = values_in c.args.values.now in
+    let rs = values_in c.args.renamed.now in
+    let h = plain c.args.head.now in
+    let es = c.args.parts.now in
+    let a = c.index-parts-0.result in
+    let b = c.index-parts-1.result in
+    let l : length es ≡ 2 = omega (arith, c.if-parts-ne2.false) in
+    renewed_node c.args.head.now es c.in_ok-new_head.new_head c.in_ok-new_parts.new_parts c.rebuilt.result (node h (plains (from_list es))) (fill_formal vs rs (node h (plains (from_list es)))) (fill vs h)
+    (more (parameter rs (plain a)) (more (fill vs (plain b)) none)) refl (formal_filled vs rs h es a b l c.index-parts-0.is c.index-parts-1.is) c.in_ok-new_head.ensures.made.tree
+    (setting_filled vs rs es (elements_or c.in_ok-new_parts.new_parts es) a b c.in_ok-new_name.new_name c.in_ok-new_value.new_value l c.index-parts-0.is c.index-parts-1.is (c.in_ok-new_parts.ensures.value a b)
+    c.in_ok-new_name.ensures.tree c.in_ok-new_value.ensures.made.tree) c.rebuilt.ensures.made
+
+pub filled_setting-returns-clause-passed : goal.filled_setting-returns-clause-passed
+filled_setting-returns-clause-passed t c = λ ms g h f r.
+    let es = c.args.parts.now in
+    let a = c.index-parts-0.result in
+    let b = c.index-parts-1.result in
+    c.rebuilt.ensures.passed ms (from_or ms c.in_ok-new_head.new_head c.args.head.now g (c.in_ok-new_head.ensures.passed ms g f))
+    (both_from ms es (elements_or c.in_ok-new_parts.new_parts es) a b c.in_ok-new_name.new_name c.in_ok-new_value.new_value (omega (arith, c.if-parts-ne2.false)) c.index-parts-0.is c.index-parts-1.is (c.in_ok-new_parts.ensures.value a b) h
+    (λ x. c.in_ok-new_name.ensures.passed ms r) (λ y. c.in_ok-new_value.ensures.passed ms y f))
