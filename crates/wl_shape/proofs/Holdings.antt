@@ -161,3 +161,9 @@ outside x t (e ∷ es) a k =
 
 pub clear : (v : Values) (x : Name) → IsReady v → has_name v.near.keys x ≡ false → IsClear (values_in v) x
 clear v x r h = record { unvalued = unvalued x v.map.entries (r.apart x h); outside = λ y. outside x (symbol y) v.map.entries (r.apart x h) r.known }
+
+pub empty_ready : (v : Values) → v.map.entries ≡ [] → IsReady v
+empty_ready v e = record {
+  known = subst (All (λ (p : Entry). IsKnown p.1.value)) (sym e) (All-nil (λ (p : Entry). IsKnown p.1.value));
+  apart = λ x h. subst (All (IsApart x)) (sym e) (All-nil (IsApart x));
+}

@@ -88,7 +88,7 @@ renamings-same arrived others ns xs h x =
     let taken : (z : Name) → is_name_among z (arrived ++ ns) ≡ is_name_among z (others ++ ns) = λ z. among-append z arrived ns ∙ ap (λ b. b || is_name_among z ns) (h z) ∙ sym (among-append z others ns) in
     λ i. elim (is_name_among x xs && h x i) [ true ↦ Some (symbol (new_name-same (arrived ++ ns) (others ++ ns) x taken i)) | false ↦ None ]
 
-or_none : (o : Option Tree) → or_else o None ≡ o
+pub or_none : (o : Option Tree) → or_else o None ≡ o
 or_none None = refl
 or_none (Some t) = refl
 
@@ -236,7 +236,7 @@ none_renamed ks es x n = (λ i. sym (has_name-among es x) i && sym (has_name-amo
     go true b f = f refl
     go false b f = refl
 
-symbol_there : (es : List Stamped) (i : ℕ) (e : Stamped) (y : Name) → i < length es → e ≡ get_or es i e → plain e ≡ symbol y → has_name es y ≡ true
+pub symbol_there : (es : List Stamped) (i : ℕ) (e : Stamped) (y : Name) → i < length es → e ≡ get_or es i e → plain e ≡ symbol y → has_name es y ≡ true
 symbol_there [] i e y l p q = absurd (omega (arith, l))
 symbol_there (f ∷ es) zero e y l p q = ap (λ b. b || has_name es y) ((same_decides (symbol y) (plain f)).1 (sym q ∙ ap plain p))
 symbol_there (f ∷ es) (suc i) e y l p q = ap (λ b. same (symbol y) (plain f) || b) (symbol_there es i e y (omega (arith, l)) p q) ∙ or_true (same (symbol y) (plain f))

@@ -15,3 +15,4 @@ pub mod Names
 pub mod Held
 pub mod Entering
 pub mod Walks
+pub mod Given

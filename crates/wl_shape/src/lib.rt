@@ -1,8 +1,9 @@
-//! What a turn does to the elements of a node.
+//! What a turn does to the elements of a node, and what stands in a body where names are filled.
 #![tactic(auto)]
 
 mod arrangement;
 mod element;
+mod filling;
 pub mod laws;
 mod names;
 mod reaching;
@@ -15,6 +16,7 @@ mod values;
 mod walk;
 
 pub use arrangement::{Shaped, arrange};
+pub use filling::{rename, replace};
 
 #[cfg(test)]
 mod tests;

@@ -1,5 +1,5 @@
 //! Names in an expression are replaced by what stands for them. Scopes shadow, and parameters that would capture are renamed.
-ghost use Rattle.std.specs.Prelude.{◌≡◌, ◌||◌, IfOk, IfSome, List, length, option_map, true, unwrap_or};
+ghost use Rattle.std.specs.Prelude.{◌≡◌, ◌||◌, [], IfOk, IfSome, List, None, length, option_map, true, unwrap_or};
 ghost use Rattle.std.specs.List.{list_any};
 ghost use Rattle.wl_expr.specs.Passed.{IsFrom};
 ghost use Rattle.wl_expr.specs.Stamped.{Stamped, plain, plains, from_list};
@@ -51,6 +51,7 @@ pub(crate) fn filled(alloc: Global, values: &Values, e: &Expr) -> Result<Option<
     requires { has_scope (plain e.now) ≡ true → IsReady values.now }
     ensures made { IsRenewed (plain e.now) (fill (values_in values.now) (plain e.now)) result }
     ensures passed { (ms : List Stamped) → IsFrom ms e.now → ValuesFrom ms values.now → IfOk result (λ o. IfSome o (IsFrom ms)) }
+    ensures kept { values.now.map.entries ≡ [] → IfOk result (λ o. o ≡ None) }
 {
     if values.is_empty() {
         return Ok(None);
