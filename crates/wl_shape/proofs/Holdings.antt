@@ -13,13 +13,14 @@ use Rattle.wl_expr.specs.Same.{same, same_decides, is_name_among}
 use Rattle.wl_expr.specs.Stamped.{Stamped, plain}
 use Rattle.wl_expr.specs.Tree.{Tree, symbol}
 use Rattle.wl_expr.specs.Words.{Name}
-use Rattle.wl_shape.specs.Fill.{names, value_names}
+use Rattle.wl_shape.specs.Fill.{names, or_else, value_names}
 use Rattle.wl_shape.specs.Held.{Entry, IsApart, IsKnown, IsReady, found, put_value, value_tree, values_in}
 use Rattle.wl_shape.specs.Names.{has_name, has_tree, HasOneMore}
 use Rattle.wl_shape.specs.declared.values.Value.{Value}
 use Rattle.wl_shape.specs.declared.values.Values.{Values}
 use Rattle.wl_shape.proofs.Fillings.{IsClear}
 use Rattle.wl_shape.proofs.Members.{or_false}
+use Rattle.wl_shape.proofs.Renamings.{or_none}
 use Rattle.wl_shape.proofs.Sets.{alike}
 use Rattle.wl_shape.proofs.Splits.{next_of}
 
@@ -34,37 +35,66 @@ by_key a b d t k e p q r h = sym q ∙ ap (same t) ((same_decides k e).0 (p ∙ 
 not_both : (t k e : Tree) → same t k ≡ true → same t e ≡ true → same k e ≡ true
 not_both t k e p q = let a : t ≡ k = (same_decides t k).0 p in (same_decides k e).1 (sym a ∙ (same_decides t e).0 q)
 
-find_put : (a b d : Bool) (e : Entry) (es : List Entry) (k : Stamped) (v : Held) (t : Tree) → same (plain k) (plain e.0) ≡ a → same t (plain k) ≡ b → same t (plain e.0) ≡ d
-    → found (insert_entry alike es k v) t ≡ elim b [ true ↦ Some (value_tree v) | false ↦ found es t ]
-    → found (if a then (e.0, v) ∷ es else e ∷ insert_entry alike es k v) t ≡ elim b [ true ↦ Some (value_tree v) | false ↦ option_map value_tree (cond d (Some e.1) (lookup (λ k. same t (plain k)) es)) ]
-find_put true true d e es k v t p q r h = let s : same t (plain e.0) ≡ true = r ∙ sym (by_key true true d t (plain k) (plain e.0) p q r refl) in ap (λ b. option_map value_tree (cond b (Some v) (lookup (λ k. same t (plain k)) es))) s
-find_put true false true e es k v t p q r h = let n : false ≡ true = by_key true false true t (plain k) (plain e.0) p q r refl in cc
-find_put true false false e es k v t p q r h = ap (λ b. option_map value_tree (cond b (Some v) (lookup (λ k. same t (plain k)) es))) r
-find_put false true true e es k v t p q r h = let n : false ≡ true = sym p ∙ not_both t (plain k) (plain e.0) q r in cc
-find_put false true false e es k v t p q r h = ap (λ b. option_map value_tree (cond b (Some e.1) (lookup (λ k. same t (plain k)) (insert_entry alike es k v)))) r ∙ h
-find_put false false true e es k v t p q r h = ap (λ b. option_map value_tree (cond b (Some e.1) (lookup (λ k. same t (plain k)) (insert_entry alike es k v)))) r
-find_put false false false e es k v t p q r h = ap (λ b. option_map value_tree (cond b (Some e.1) (lookup (λ k. same t (plain k)) (insert_entry alike es k v)))) r ∙ h
+-- of a map from symbols to things that hold trees
+module _ {X : Type 0} (f : X → Tree) where
+  abbrev tree_at : List (Stamped × X) → Tree → Option Tree
+  tree_at es t = option_map f (lookup (λ k. same t (plain k)) es)
 
-found_put : (es : List Entry) (k : Stamped) (v : Held) (t : Tree) → found (insert_entry alike es k v) t ≡ elim (same t (plain k)) [ true ↦ Some (value_tree v) | false ↦ found es t ]
-found_put [] k v t = go (same t (plain k))
-  where
-    go : (b : Bool) → option_map value_tree (cond b (Some v) None) ≡ elim b [ true ↦ Some (value_tree v) | false ↦ None ]
-    go true = refl
-    go false = refl
-found_put (e ∷ es) k v t = find_put (same (plain k) (plain e.0)) (same t (plain k)) (same t (plain e.0)) e es k v t refl refl refl (found_put es k v t)
+  find_put : (a b d : Bool) (e : Stamped × X) (es : List (Stamped × X)) (k : Stamped) (v : X) (t : Tree) → same (plain k) (plain e.0) ≡ a → same t (plain k) ≡ b → same t (plain e.0) ≡ d
+      → tree_at (insert_entry alike es k v) t ≡ elim b [ true ↦ Some (f v) | false ↦ tree_at es t ]
+      → tree_at (if a then (e.0, v) ∷ es else e ∷ insert_entry alike es k v) t ≡ elim b [ true ↦ Some (f v) | false ↦ option_map f (cond d (Some e.1) (lookup (λ k. same t (plain k)) es)) ]
+  find_put true true d e es k v t p q r h = let s : same t (plain e.0) ≡ true = r ∙ sym (by_key true true d t (plain k) (plain e.0) p q r refl) in ap (λ b. option_map f (cond b (Some v) (lookup (λ k. same t (plain k)) es))) s
+  find_put true false true e es k v t p q r h = let n : false ≡ true = by_key true false true t (plain k) (plain e.0) p q r refl in cc
+  find_put true false false e es k v t p q r h = ap (λ b. option_map f (cond b (Some v) (lookup (λ k. same t (plain k)) es))) r
+  find_put false true true e es k v t p q r h = let n : false ≡ true = sym p ∙ not_both t (plain k) (plain e.0) q r in cc
+  find_put false true false e es k v t p q r h = ap (λ b. option_map f (cond b (Some e.1) (lookup (λ k. same t (plain k)) (insert_entry alike es k v)))) r ∙ h
+  find_put false false true e es k v t p q r h = ap (λ b. option_map f (cond b (Some e.1) (lookup (λ k. same t (plain k)) (insert_entry alike es k v)))) r
+  find_put false false false e es k v t p q r h = ap (λ b. option_map f (cond b (Some e.1) (lookup (λ k. same t (plain k)) (insert_entry alike es k v)))) r ∙ h
 
-pub value_put : (es fs : List Entry) (k : Stamped) (v : Held) (x : Name) → fs ≡ insert_entry alike es k v → found fs (symbol x) ≡ put_value (λ y. found es (symbol y)) (plain k) (value_tree v) x
-value_put es fs k v x e = ap (λ gs. found gs (symbol x)) e ∙ found_put es k v (symbol x)
+  pub found_put : (es : List (Stamped × X)) (k : Stamped) (v : X) (t : Tree) → tree_at (insert_entry alike es k v) t ≡ elim (same t (plain k)) [ true ↦ Some (f v) | false ↦ tree_at es t ]
+  found_put [] k v t = go (same t (plain k))
+    where
+      go : (b : Bool) → option_map f (cond b (Some v) None) ≡ elim b [ true ↦ Some (f v) | false ↦ None ]
+      go true = refl
+      go false = refl
+  found_put (e ∷ es) k v t = find_put (same (plain k) (plain e.0)) (same t (plain k)) (same t (plain e.0)) e es k v t refl refl refl (found_put es k v t)
+
+  -- a key that is there, and one that isn't
+  there : (b : Bool) (es : List (Stamped × X)) (k : Stamped) (v t : Tree) → is_some (lookup (alike k) es) ≡ true → same t (plain k) ≡ b → tree_at es t ≡ or_else (tree_at es t) (elim b [ true ↦ Some v | false ↦ None ])
+  there false es k v t h q = sym (or_none (tree_at es t))
+  there true es k v t h q = kept (lookup (λ k. same t (plain k)) es) (ap (λ u. is_some (lookup (λ k. same u (plain k)) es)) ((same_decides t (plain k)).0 q) ∙ h)
+    where
+      kept : (o : Option X) → is_some o ≡ true → option_map f o ≡ or_else (option_map f o) (Some v)
+      kept None e = cc
+      kept (Some x) e = refl
+
+  pub already_there : (es : List (Stamped × X)) (k : Stamped) (v t : Tree) → is_some (lookup (alike k) es) ≡ true → tree_at es t ≡ or_else (tree_at es t) (elim (same t (plain k)) [ true ↦ Some v | false ↦ None ])
+  already_there es k v t h = there (same t (plain k)) es k v t h refl
+
+  newly : (b : Bool) (es : List (Stamped × X)) (k : Stamped) (v : X) (t : Tree) → is_some (lookup (alike k) es) ≡ false → same t (plain k) ≡ b → elim b [ true ↦ Some (f v) | false ↦ tree_at es t ] ≡ or_else (tree_at es t) (elim b [ true ↦ Some (f v) | false ↦ None ])
+  newly false es k v t h q = sym (or_none (tree_at es t))
+  newly true es k v t h q = missing (lookup (λ k. same t (plain k)) es) (ap (λ u. is_some (lookup (λ k. same u (plain k)) es)) ((same_decides t (plain k)).0 q) ∙ h)
+    where
+      missing : (o : Option X) → is_some o ≡ false → Some (f v) ≡ or_else (option_map f o) (Some (f v))
+      missing None e = refl
+      missing (Some x) e = cc
+
+  pub newly_put : (es fs : List (Stamped × X)) (k : Stamped) (v : X) (t : Tree) → fs ≡ insert_entry alike es k v → is_some (lookup (alike k) es) ≡ false → tree_at fs t ≡ or_else (tree_at es t) (elim (same t (plain k)) [ true ↦ Some (f v) | false ↦ None ])
+  newly_put es fs k v t e h = ap (λ us. tree_at us t) e ∙ found_put es k v t ∙ newly (same t (plain k)) es k v t h refl
 
 -- what holds of each entry holds of each after one more, in whose place it may be
-all_put_by : (P : Entry → Type 0) (b : Bool) (e : Entry) (es fs : List Entry) (v : Held) → (P e → P (e.0, v)) → P e → All P es → All P fs → All P (if b then (e.0, v) ∷ es else e ∷ fs)
-all_put_by P true e es fs v put h all more = All-cons P (e.0, v) es (put h) all
-all_put_by P false e es fs v put h all more = All-cons P e fs h more
+module _ {X : Type 0} (P : Stamped × X → Type 0) where
+  all_put_by : (b : Bool) (e : Stamped × X) (es fs : List (Stamped × X)) (v : X) → (P e → P (e.0, v)) → P e → All P es → All P fs → All P (if b then (e.0, v) ∷ es else e ∷ fs)
+  all_put_by true e es fs v put h all more = All-cons P (e.0, v) es (put h) all
+  all_put_by false e es fs v put h all more = All-cons P e fs h more
 
-pub all_put : (P : Entry → Type 0) (es : List Entry) (k : Stamped) (v : Held) → ((e : Entry) → P e → P (e.0, v)) → P (k, v) → All P es → All P (insert_entry alike es k v)
-all_put P [] k v put h all = All-cons P (k, v) [] h (All-nil P)
-all_put P (e ∷ es) k v put h all =
-    all_put_by P (alike k e.0) e es (insert_entry alike es k v) v (put e) (All-head P e es all) (All-tail P e es all) (all_put P es k v put h (All-tail P e es all))
+  pub all_put : (es : List (Stamped × X)) (k : Stamped) (v : X) → ((e : Stamped × X) → P e → P (e.0, v)) → P (k, v) → All P es → All P (insert_entry alike es k v)
+  all_put [] k v put h all = All-cons P (k, v) [] h (All-nil P)
+  all_put (e ∷ es) k v put h all =
+      all_put_by (alike k e.0) e es (insert_entry alike es k v) v (put e) (All-head P e es all) (All-tail P e es all) (all_put es k v put h (All-tail P e es all))
+
+pub value_put : (es fs : List Entry) (k : Stamped) (v : Held) (x : Name) → fs ≡ insert_entry alike es k v → found fs (symbol x) ≡ put_value (λ y. found es (symbol y)) (plain k) (value_tree v) x
+value_put es fs k v x e = ap (λ gs. found gs (symbol x)) e ∙ found_put value_tree es k v (symbol x)
 
 neither : (a b : Bool) → (a || b) ≡ false → (a ≡ false) × (b ≡ false)
 neither true b e = cc

@@ -16,6 +16,10 @@ use Rattle.wl_shape.specs.declared.filling.Given.TheVariants.{Trees, Numbered}
 abbrev pub paired_with : List (Stamped × Stamped) → Tree → Option Tree
 paired_with es t = option_map plain (lookup (λ k. same t (plain k)) es)
 
+-- what stands for the names of one pair
+abbrev pub one_pair : Tree → Tree → Values
+one_pair k t x = elim (same (symbol x) k) [ true ↦ Some t | false ↦ None ]
+
 abbrev pub given_values : Given → Values
 given_values (Trees m) x = paired_with m.now.entries (symbol x)
 given_values (Numbered ns n) x = elim (has_name ns.now.keys x) [ true ↦ Some (symbol (numbered n x)) | false ↦ None ]

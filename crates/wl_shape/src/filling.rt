@@ -1,5 +1,5 @@
 //! The calls that replace names in a body.
-ghost use Rattle.std.specs.Prelude.{◌≡◌, [], IfOk, IfSome, length, List, None, option_map, true};
+ghost use Rattle.std.specs.Prelude.{◌≡◌, [], IfOk, IfSome, length, List, None, OnOk, option_map, true};
 ghost use Rattle.std.specs.List.{list_all};
 ghost use Rattle.wl_expr.specs.Passed.{IsFrom};
 ghost use Rattle.wl_expr.specs.Stamped.{Stamped, plain, symbol as stamped_symbol};
@@ -10,7 +10,7 @@ ghost use Rattle.wl_ports.specs.Name.{IsName};
 ghost use Rattle.wl_shape.specs.Answers.{AllFrom, IsFilled, IsMade, trees};
 ghost use Rattle.wl_shape.specs.Elements.{is_name};
 ghost use Rattle.wl_shape.specs.Fill as fill;
-ghost use Rattle.wl_shape.specs.Given.{DoesNotFit, GivenFrom, NoneStands, PairsFrom, given_tree, given_values, paired_with};
+ghost use Rattle.wl_shape.specs.Given.{DoesNotFit, GivenFrom, NoneStands, PairsFrom, given_tree, given_values, one_pair, paired_with};
 ghost use Rattle.wl_shape.specs.Held.{IsReady, ValuesFrom, values_in};
 ghost use Rattle.wl_shape.specs.Names.{names_in};
 ghost use Rattle.wl_shape.specs.Standing.{AgreeOn};
@@ -117,6 +117,19 @@ fn filled_with(alloc: Global, given: Given<'_>, body: &Expr) -> Result<Expr, Exp
     Ok(e)
 }
 
+/// Puts the pair, where the name has none yet.
+fn put_first(pairs: &mut IndexMap<Expr, Expr>, name: &Expr, value: &Expr) -> Result<(), Memory>
+    ensures value { OnOk result ((x : Name) → paired_with pairs.new.entries (tree.symbol x)
+        ≡ fill.or_else (paired_with pairs.old.entries (tree.symbol x)) (one_pair (plain name.now) (plain value.now) x)) }
+    ensures passed { (ms : List Stamped) → PairsFrom ms pairs.old.entries → IsFrom ms value.now → OnOk result (PairsFrom ms pairs.new.entries) }
+{
+    if pairs.contains_key(name) {
+        return Ok(());
+    }
+    pairs.insert(name.copy()?, value.copy()?)?;
+    Ok(())
+}
+
 /// The values by their names. Of equal names the first counts.
 fn paired(alloc: Global, names: &[Expr], values: &[Expr]) -> Result<IndexMap<Expr, Expr>, Memory>
     requires symbols { list_all is_name (trees names.now) ≡ true }
@@ -127,9 +140,7 @@ fn paired(alloc: Global, names: &[Expr], values: &[Expr]) -> Result<IndexMap<Exp
 {
     let mut pairs = IndexMap::new(alloc);
     for k in 0..names.len() {
-        if !pairs.contains_key(&names[k]) {
-            pairs.insert(names[k].copy()?, values[k].copy()?)?;
-        }
+        put_first(&mut pairs, &names[k], &values[k])?;
     }
     Ok(pairs)
 }
