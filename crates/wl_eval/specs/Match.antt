@@ -5,13 +5,13 @@ use Rattle.wl_expr.specs.Words.{Name, applied, elements, is_true}
 use Rattle.wl_expr.specs.Special.{condition, special}
 use Rattle.wl_match.specs.declared.flags.Flags.{Flags}
 use Rattle.wl_match.specs.Pattern.{Ask, applies, holds, refuses, pattern, no_flags}
-use Rattle.wl_match.specs.Search.{Trail, bound, noted, Leaf, Fail, Found}
+use Rattle.wl_match.specs.Search.{Trail, bound, noted, run_of, Leaf, Fail, Found}
 use Rattle.wl_match.specs.Trials.{Trials}
 use Rattle.wl_match.specs.Heads.{heads}
 use Rattle.wl_rules.specs.Attributes.{AttributeSet}
 use Rattle.wl_rules.specs.Entries.{PlainRule}
 use Rattle.wl_shape.specs.Scopes.{Local, values, names, locals}
-use Rattle.wl_shape.specs.Fill.{Run, fill_binding}
+use Rattle.wl_shape.specs.Fill.{Runs, fill_binding}
 use Rattle.wl_eval.specs.State.{BudgetEnded}
 use Rattle.wl_eval.specs.Prog.{Prog, done, stop, ◌>>=◌, value_of, value_of_built, entry_of, tick, sized, or_else}
 use Rattle.wl_eval.specs.Scoping.{module_body, with_body, in_block}
@@ -44,11 +44,9 @@ walk f (Found e ∷ ls) = do
   a ← f e
   or_else a (walk f ls)
 
--- the names that a leaf has bound, each with its run
-abbrev pub runs : Trail → List Run
-runs [] = []
-runs (bound x r ∷ es) = (x, r) ∷ runs es
-runs (noted a r ∷ es) = runs es
+-- the runs that a leaf has bound names to
+abbrev pub runs : Trail → Runs
+runs e x = run_of x e
 
 -- ---- tests
 
@@ -60,7 +58,7 @@ each_applies t (e ∷ es) = do
   elim (is_true v) [ true ↦ each_applies t es | false ↦ done false ]
 
 -- `p /; c`: c with the bound names filled in is True. `Except[c]`: c doesn't match, where no name is bound.
-unfoldable pub test_holds : (Tree → Tree → Prog Bool) → List Run → Ask → List Tree → Prog Bool
+unfoldable pub test_holds : (Tree → Tree → Prog Bool) → Runs → Ask → List Tree → Prog Bool
 test_holds inner rs (applies t) r = each_applies t r
 test_holds inner rs (holds c) r = do
   v ← value_of_built (fill_binding c rs)
@@ -71,7 +69,7 @@ test_holds inner rs (refuses c) (e ∷ []) = do
 test_holds inner rs (refuses c) r = done false
 
 -- the tests as they stand in the pattern, each with all names bound; one that fails is the last
-unfoldable pub tests_hold : (Tree → Tree → Prog Bool) → List Run → Trail → Prog Bool
+unfoldable pub tests_hold : (Tree → Tree → Prog Bool) → Runs → Trail → Prog Bool
 tests_hold inner rs [] = done true
 tests_hold inner rs (bound x r ∷ es) = tests_hold inner rs es
 tests_hold inner rs (noted a r ∷ es) = do
