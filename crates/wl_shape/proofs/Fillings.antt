@@ -99,7 +99,7 @@ module _ (f : Trees → Trees) (g : Tree → Tree) (ends : f none ≡ none) (goe
       let rest = all_of (drop (k + 1) es) in
       let before = all ++ drop (length all) (take k es) in
       let d : drop (length all) (take (k + 1) es) ≡ drop (length all) (take k es) ++ e ∷ [] =
-          ap (drop (length all)) (take-next es k e l p) ∙ drop-push (length all) (take k es) e (omega (arith, few, length-taken es k (omega (arith, l)))) in
+      ap (drop (length all)) (take-next es k e l p) ∙ drop-push (length all) (take k es) e (omega (arith, few, length-taken es k (omega (arith, l)))) in
       v ∙ ap (λ us. trees before ++ all_of us) (next_of es k e l p) ∙ ap (λ us. trees before ++ us) (all-cons e (drop (k + 1) es))
       ∙ ap (λ t. trees before ++ t ∷ rest) (sym same) ∙ sym (trees-push before e rest)
       ∙ ap (λ us. trees us ++ rest) (append_assoc all (drop (length all) (take k es)) (e ∷ []) ∙ ap (λ us. all ++ us) (sym d))
@@ -122,7 +122,7 @@ module _ (f : Trees → Trees) (g : Tree → Tree) (ends : f none ≡ none) (goe
       let t : take k es ≡ es = take_all k es l in
       let d : all_of (drop k es) ≡ [] = ap all_of (drop_all k es l) ∙ ap to_list ends in
       let w : to_list (f (plains (from_list es))) ≡ trees new =
-          v ∙ ap (λ us. trees (all ++ drop (length all) (take k es)) ++ us) d ∙ append-nil (trees (all ++ drop (length all) (take k es))) ∙ ap (λ us. trees (all ++ drop (length all) us)) t ∙ ap trees (sym n) in
+      v ∙ ap (λ us. trees (all ++ drop (length all) (take k es)) ++ us) d ∙ append-nil (trees (all ++ drop (length all) (take k es))) ∙ ap (λ us. trees (all ++ drop (length all) us)) t ∙ ap trees (sym n) in
       plains_from_list new ∙ ap tree.from_list (sym w) ∙ from_list_to_list (f (plains (from_list es)))
 
   -- each of the elements fits where all do

@@ -13,6 +13,7 @@ mod Fresh
 mod Renamings
 mod Meetings
 mod Holdings
+mod Lent
 mod Preparing
 mod Fillings
 mod Agreement

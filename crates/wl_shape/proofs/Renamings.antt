@@ -70,16 +70,16 @@ not_true false e = refl
 pub arriving-met : (ms xs : List Name) (vs : Values) (u : Tree) → AreMet ms xs vs u → (y : Name) → is_name_among y (arriving ms vs) ≡ is_name_among y (arriving (reached u) (without_names xs vs))
 arriving-met ms xs vs u met y = same_truth (is_name_among y (arriving ms vs)) (is_name_among y (arriving (reached u) (without_names xs vs)))
     (λ a.
-      let r = arrives_with y ms vs a in
-      let b = and_both (is_some (vs r.by) && not (is_name_among r.by xs)) (is_name_among r.by (reached u)) (sym (met r.by) ∙ r.reached) in
-      let s = and_both (is_some (vs r.by)) (not (is_name_among r.by xs)) b.0 in
-      arrives y r.by (reached u) (without_names xs vs) b.1 (ap (λ o. is_name_among y (value_names o)) (without_other xs vs r.by (not_true (is_name_among r.by xs) s.1)) ∙ r.inside))
+    let r = arrives_with y ms vs a in
+    let b = and_both (is_some (vs r.by) && not (is_name_among r.by xs)) (is_name_among r.by (reached u)) (sym (met r.by) ∙ r.reached) in
+    let s = and_both (is_some (vs r.by)) (not (is_name_among r.by xs)) b.0 in
+    arrives y r.by (reached u) (without_names xs vs) b.1 (ap (λ o. is_name_among y (value_names o)) (without_other xs vs r.by (not_true (is_name_among r.by xs) s.1)) ∙ r.inside))
     (λ a.
-      let r = arrives_with y (reached u) (without_names xs vs) a in
-      let n : is_name_among r.by xs ≡ false = not_shadowed xs vs r.by y (is_name_among r.by xs) refl r.inside in
-      let i : is_name_among y (value_names (vs r.by)) ≡ true = ap (λ o. is_name_among y (value_names o)) (sym (without_other xs vs r.by n)) ∙ r.inside in
-      let v = valued y (vs r.by) i in
-      arrives y r.by ms vs (met r.by ∙ ap (λ b. (b && not (is_name_among r.by xs)) && is_name_among r.by (reached u)) v ∙ ap (λ b. not b && is_name_among r.by (reached u)) n ∙ r.reached) i)
+    let r = arrives_with y (reached u) (without_names xs vs) a in
+    let n : is_name_among r.by xs ≡ false = not_shadowed xs vs r.by y (is_name_among r.by xs) refl r.inside in
+    let i : is_name_among y (value_names (vs r.by)) ≡ true = ap (λ o. is_name_among y (value_names o)) (sym (without_other xs vs r.by n)) ∙ r.inside in
+    let v = valued y (vs r.by) i in
+    arrives y r.by ms vs (met r.by ∙ ap (λ b. (b && not (is_name_among r.by xs)) && is_name_among r.by (reached u)) v ∙ ap (λ b. not b && is_name_among r.by (reached u)) n ∙ r.reached) i)
 
 -- ---- new names
 
@@ -254,8 +254,8 @@ too_long_by (symbol y) es ks taken own h m a w =
     let xs = names_in (trees es) in
     let i : is_name_among y xs ≡ true = sym (has_name-among es y) ∙ m y refl in
     let e : renamings (names_in (trees ks)) taken xs y ≡ Some (symbol (new_name own y)) =
-        ap (λ b. elim (b && is_name_among y (names_in (trees ks))) [ true ↦ Some (symbol (new_name taken y)) | false ↦ None ]) i
-        ∙ ap (λ b. elim b [ true ↦ Some (symbol (new_name taken y)) | false ↦ None ]) (a y refl) ∙ ap (λ z. Some (symbol z)) (sym (new_name-same own taken y h)) in
+    ap (λ b. elim (b && is_name_among y (names_in (trees ks))) [ true ↦ Some (symbol (new_name taken y)) | false ↦ None ]) i
+    ∙ ap (λ b. elim b [ true ↦ Some (symbol (new_name taken y)) | false ↦ None ]) (a y refl) ∙ ap (λ z. Some (symbol z)) (sym (new_name-same own taken y h)) in
     record { name = y; among = i; large = λ f. w (subst IsWithinLimits (ap (filled_symbol y) e) f) }
 
 pub too_long : (es : List Stamped) (i : ℕ) (e : Stamped) (ks : List Stamped) (taken own : List Name) → i < length es → e ≡ get_or es i e → has_tree ks (plain e) ≡ true → ((z : Name) → is_name_among z own ≡ is_name_among z taken)

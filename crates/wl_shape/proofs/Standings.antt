@@ -83,8 +83,8 @@ mutual
       either (among_either x (reached_first t) (except_names xs (reached u)) m)
       (λ a. first_stands v (fill_first vs i.renamed t) (more (fill i.inner u) none) (value_stands_in_first t vs i.renamed x v e a))
       (λ a. let b = and_both (is_name_among x (reached u)) (not (is_name_among x xs)) (sym (among-except x xs (reached u)) ∙ a) in
-        others_stand v (fill_first vs i.renamed t) (more (fill i.inner u) none)
-        (first_stands v (fill i.inner u) none (value_stands u i.inner x v (inner_of_other xs vs u x (not_false (is_name_among x xs) b.1) ∙ e) b.0)))
+      others_stand v (fill_first vs i.renamed t) (more (fill i.inner u) none)
+      (first_stands v (fill i.inner u) none (value_stands u i.inner x v (inner_of_other xs vs u x (not_false (is_name_among x xs) b.1) ∙ e) b.0)))
   value_stands_in_scope (more t (more u (more w ts))) xs vs x v e m = cc
 
   value_stands_in_first : (t : Tree) (vs rs : Values) (x : Name) (v : Tree) → vs x ≡ Some v → is_name_among x (reached_first t) ≡ true → IsNotLarger v (fill_first vs rs t)

@@ -7,10 +7,12 @@ use Rattle.wl_expr.specs.Same.{same, is_name_among}
 use Rattle.wl_expr.specs.Stamped.{Stamped, plain}
 use Rattle.wl_expr.specs.Tree.{Tree, symbol, IsWithinLimits}
 use Rattle.wl_expr.specs.Words.{Name}
-use Rattle.wl_shape.specs.Fill.{Values, numbered}
+use Rattle.wl_match.specs.Search.{run_of}
+use Rattle.wl_match.specs.Shown.{AreFrom, trail_in}
+use Rattle.wl_shape.specs.Fill.{Values, binding, numbered}
 use Rattle.wl_shape.specs.Names.{has_name}
 use Rattle.wl_shape.specs.declared.filling.Given.{Given}
-use Rattle.wl_shape.specs.declared.filling.Given.TheVariants.{Trees, Numbered}
+use Rattle.wl_shape.specs.declared.filling.Given.TheVariants.{Trees, Numbered, Bound}
 
 -- what stands for a key that is this tree
 abbrev pub paired_with : List (Stamped × Stamped) → Tree → Option Tree
@@ -23,6 +25,7 @@ one_pair k t x = elim (same (symbol x) k) [ true ↦ Some t | false ↦ None ]
 abbrev pub given_values : Given → Values
 given_values (Trees m) x = paired_with m.now.entries (symbol x)
 given_values (Numbered ns n) x = elim (has_name ns.now.keys x) [ true ↦ Some (symbol (numbered n x)) | false ↦ None ]
+given_values (Bound v) x = binding (λ y. run_of y (trail_in v.now)) x
 
 -- what stands for a symbol
 abbrev pub given_tree : Given → Tree → Option Tree
@@ -39,6 +42,7 @@ PairsFrom ms es = All (λ (p : Stamped × Stamped). IsFrom ms p.1) es
 abbrev pub GivenFrom : List Stamped → Given → Type 0
 GivenFrom ms (Trees m) = PairsFrom ms m.now.entries
 GivenFrom ms (Numbered ns n) = ⊤
+GivenFrom ms (Bound v) = AreFrom ms v.now
 
 -- nothing stands for these names
 abbrev pub NoneStands : List Name → Values → Type 0

@@ -6,6 +6,8 @@ ghost use Rattle.wl_expr.specs.Stamped.{Stamped, plain, symbol as stamped_symbol
 ghost use Rattle.wl_expr.specs.Tree as tree;
 ghost use Rattle.wl_expr.specs.Tree.{IsWithinLimits};
 ghost use Rattle.wl_expr.specs.Words.{Name};
+ghost use Rattle.wl_match.specs.Search.{run_of};
+ghost use Rattle.wl_match.specs.Shown.{AreFrom, trail_in};
 ghost use Rattle.wl_ports.specs.Name.{IsName};
 ghost use Rattle.wl_shape.specs.Answers.{AllFrom, IsFilled, IsMade, trees};
 ghost use Rattle.wl_shape.specs.Elements.{is_name};
@@ -18,12 +20,14 @@ ghost use Rattle.wl_shape.specs.Walks.{has_scope};
 
 use crate::names::{Names, add_names, has, set_of};
 use crate::reaching::reached;
+use crate::runs::run_tree;
 use crate::scopes::has_scope;
 use crate::values::{Values, value_of};
 use crate::walk::filled;
 use indexmap::{IndexMap, IndexSet};
 use std::alloc::Global;
 use wl_expr::{Expr, ExprFault, Look};
+use wl_match::View;
 use wl_ports::Memory;
 
 /// What is to stand for names.
@@ -33,6 +37,8 @@ pub(crate) enum Given<'a> {
     Trees(&'a IndexMap<Expr, Expr>),
     /// The symbols of local variables of the Module of this number.
     Numbered(&'a Names, u64),
+    /// What a match has bound.
+    Bound(&'a View<'a, 'a>),
 }
 
 /// The symbol of a local variable of the n-th Module.
@@ -58,6 +64,10 @@ impl<'a> Given<'a> {
         match self {
             Given::Trees(trees) => match trees.get(e) {
                 Some(tree) => Ok(Some(tree.copy()?)),
+                None => Ok(None),
+            },
+            Given::Bound(view) => match view.run(name) {
+                Some(run) => Ok(Some(run_tree(alloc, run)?)),
                 None => Ok(None),
             },
             Given::Numbered(names, n) => {
@@ -163,6 +173,17 @@ pub fn replace(
 {
     let pairs = paired(alloc, names, values)?;
     filled_with(alloc, Given::Trees(&pairs), body)
+}
+
+/// The body with what the match has bound in the place of its names: the element of a run of one, a `Sequence` for another run.
+/// Scopes and `Large` as for `replace`.
+pub fn fill(alloc: Global, body: &Expr, view: &View<'_, '_>) -> Result<Expr, ExprFault>
+    ensures filled { IsFilled (fill.fill_binding (plain body.now) (λ x. run_of x (trail_in view.now))) result }
+    ensures passed { (ms : List Stamped) → IsFrom ms body.now → AreFrom ms view.now → IfOk result (IsFrom ms) }
+    ensures kept { NoneStands (fill.reached (plain body.now)) (fill.binding (λ x. run_of x (trail_in view.now)))
+        → IfOk result (λ e. e ≡ body.now) }
+{
+    filled_with(alloc, Given::Bound(view), body)
 }
 
 /// The body with the names renamed to those of local variables of the n-th Module, `x` to `x$n`. `Large` where the tree doesn't fit.

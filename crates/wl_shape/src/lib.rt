@@ -9,6 +9,7 @@ mod names;
 mod reaching;
 mod renaming;
 mod renewal;
+mod runs;
 mod scopes;
 mod splicing;
 mod threading;
@@ -16,7 +17,7 @@ mod values;
 mod walk;
 
 pub use arrangement::{Shaped, arrange};
-pub use filling::{rename, replace};
+pub use filling::{fill, rename, replace};
 
 #[cfg(test)]
 mod tests;

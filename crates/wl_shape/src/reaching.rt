@@ -104,12 +104,7 @@ fn reach_scope(
 
 /// The same of the parameters of a scope: of the initial values among them.
 #[cycle(reach)]
-fn reach_first(
-    alloc: Global,
-    targets: &Names,
-    first: &Expr,
-    met: &mut Names,
-) -> Result<(), Memory>
+fn reach_first(alloc: Global, targets: &Names, first: &Expr, met: &mut Names) -> Result<(), Memory>
     ensures { OnOk result (HasMet targets.now.keys met.old.keys met.new.keys (fill.reached_first (plain first.now))) }
 {
     let Look::Node(head, formals) = first.view() else {

@@ -89,11 +89,7 @@ fn filled_args(
 
 #[cycle(fill)]
 #[tactic(auto, using(wl_expr::proofs::Parts::depth_arg))]
-fn filled_all(
-    alloc: Global,
-    values: &Values,
-    args: &[Expr],
-) -> Result<Option<Vec<Expr>>, ExprFault>
+fn filled_all(alloc: Global, values: &Values, args: &[Expr]) -> Result<Option<Vec<Expr>>, ExprFault>
     requires { have_scopes (plains (from_list args.now)) ≡ true → IsReady values.now }
     ensures made { AreRenewed args.now (fill_all (values_in values.now) (plains (from_list args.now))) result }
     ensures passed { (ms : List Stamped) → AllFrom ms args.now → ValuesFrom ms values.now

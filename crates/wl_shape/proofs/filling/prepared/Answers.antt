@@ -52,18 +52,18 @@ loop-name-preserved c =
     let before = values_in c.loop-name.values in
     elim c.match-branch-4.branch [
       | in-Some+in_ok-value_of+in_ok-put w ↦
-        let t = w.in-Some.tree in
-        let v = w.in_ok-value_of.field-0 in
-        let q : Some (plain t) ≡ given_tree g (plain e) = ap (option_map plain) (sym w.in-Some.is) ∙ c.in_ok-tree.ensures.tree in
-        record {
-          value = λ x. c.loop-name.invariant.value x
-              ∙ next_put (given_tree g) es i e (plain t) before (values_in w.put.new.self) l p q (λ y. w.in_ok-put.ensures.value y ∙ ap (λ s. put_value before (plain e) (plain s) y) w.in_ok-value_of.ensures.tree) x
-              ∙ ap (λ (s : Values). put_values (drop (i + 1) es) (given_values g) (values_in s) x) (sym w.values-is);
-          ready = λ h. subst IsReady (sym w.values-is) (w.in_ok-put.ensures.ready (c.loop-name.invariant.ready h) (w.in_ok-value_of.ensures.known (c.has_scope-known.ensures ∙ h)));
-          passed = λ ms f. subst (ValuesFrom ms) (sym w.values-is) (w.in_ok-put.ensures.passed ms (c.loop-name.invariant.passed ms f)
-              (subst (IsFrom ms) (sym w.in_ok-value_of.ensures.tree) (subst (λ o. IfSome o (IsFrom ms)) w.in-Some.is (c.in_ok-tree.ensures.passed ms f))));
-          none = λ n. absurd (none_given g u (plain t) es i e l p (are_reached c.add_names.new.names.keys es c.in_ok-met.met.keys u c.as_slice-name-items.ensures.keys c.in_ok-met.ensures) n q);
-        }
+          let t = w.in-Some.tree in
+          let v = w.in_ok-value_of.field-0 in
+          let q : Some (plain t) ≡ given_tree g (plain e) = ap (option_map plain) (sym w.in-Some.is) ∙ c.in_ok-tree.ensures.tree in
+          record {
+            value = λ x. c.loop-name.invariant.value x
+                ∙ next_put (given_tree g) es i e (plain t) before (values_in w.put.new.self) l p q (λ y. w.in_ok-put.ensures.value y ∙ ap (λ s. put_value before (plain e) (plain s) y) w.in_ok-value_of.ensures.tree) x
+                ∙ ap (λ (s : Values). put_values (drop (i + 1) es) (given_values g) (values_in s) x) (sym w.values-is);
+            ready = λ h. subst IsReady (sym w.values-is) (w.in_ok-put.ensures.ready (c.loop-name.invariant.ready h) (w.in_ok-value_of.ensures.known (c.has_scope-known.ensures ∙ h)));
+            passed = λ ms f. subst (ValuesFrom ms) (sym w.values-is) (w.in_ok-put.ensures.passed ms (c.loop-name.invariant.passed ms f)
+                (subst (IsFrom ms) (sym w.in_ok-value_of.ensures.tree) (subst (λ o. IfSome o (IsFrom ms)) w.in-Some.is (c.in_ok-tree.ensures.passed ms f))));
+            none = λ n. absurd (none_given g u (plain t) es i e l p (are_reached c.add_names.new.names.keys es c.in_ok-met.met.keys u c.as_slice-name-items.ensures.keys c.in_ok-met.ensures) n q);
+          }
       | in_default w ↦ record {
         value = λ x. c.loop-name.invariant.value x
             ∙ next_unput (given_tree g) es i e before l p (ap (option_map plain) (sym w.in_default.is) ∙ c.in_ok-tree.ensures.tree) x

@@ -14,7 +14,7 @@ returns-clause-filled c =
     let ns = c.args.names.now in
     let given : Values = λ x. elim (has_name c.in_ok-locals.locals.keys x) [ true ↦ Some (symbol (numbered c.args.n x)) | false ↦ None ] in
     let same : given ≡ numbered_names (names_in (trees ns)) c.args.n =
-        λ i x. elim ((c.in_ok-locals.ensures x ∙ has_name-among ns x) i) [ true ↦ Some (symbol (numbered c.args.n x)) | false ↦ None ] in
+    λ i x. elim ((c.in_ok-locals.ensures x ∙ has_name-among ns x) i) [ true ↦ Some (symbol (numbered c.args.n x)) | false ↦ None ] in
     subst (λ vs. IsFilled (fill vs (plain c.args.body.now)) c.filled_with.result) same c.filled_with.ensures.filled
 
 pub returns-clause-kept : goal.returns-clause-kept
@@ -22,5 +22,5 @@ returns-clause-kept c = λ n.
     let ns = c.args.names.now in
     let given : Values = λ x. elim (has_name c.in_ok-locals.locals.keys x) [ true ↦ Some (symbol (numbered c.args.n x)) | false ↦ None ] in
     let same : given ≡ numbered_names (names_in (trees ns)) c.args.n =
-        λ i x. elim ((c.in_ok-locals.ensures x ∙ has_name-among ns x) i) [ true ↦ Some (symbol (numbered c.args.n x)) | false ↦ None ] in
+    λ i x. elim ((c.in_ok-locals.ensures x ∙ has_name-among ns x) i) [ true ↦ Some (symbol (numbered c.args.n x)) | false ↦ None ] in
     c.filled_with.ensures.kept (subst (NoneStands (reached (plain c.args.body.now))) (sym same) n)

@@ -22,13 +22,13 @@ loop-target-preserved c = λ x.
     let rest = λ (us : List Stamped). has_name us x || (has_name (drop (i + 1) ts) x && not (has_name ns x)) in
     elim c.if-not-has.branch [
       | then-not-has+in_ok-put w ↦
-        c.loop-target.invariant x
-        ∙ next_unshadowed ts i e c.in_ok-shadowed.shadowed.keys ns ks w.put.new.names.keys l q c.in_ok-shadowed.ensures (sym w.if-not-has.ensures) w.in_ok-put.ensures x
-        ∙ ap (λ s. rest s.keys) (sym w.others-is)
+          c.loop-target.invariant x
+          ∙ next_unshadowed ts i e c.in_ok-shadowed.shadowed.keys ns ks w.put.new.names.keys l q c.in_ok-shadowed.ensures (sym w.if-not-has.ensures) w.in_ok-put.ensures x
+          ∙ ap (λ s. rest s.keys) (sym w.others-is)
       | else-not-has w ↦
-        c.loop-target.invariant x
-        ∙ next_shadowed ts i e c.in_ok-shadowed.shadowed.keys ns ks l q c.in_ok-shadowed.ensures (sym w.if-not-has.ensures) x
-        ∙ ap (λ s. rest s.keys) (sym w.others-is)
+          c.loop-target.invariant x
+          ∙ next_shadowed ts i e c.in_ok-shadowed.shadowed.keys ns ks l q c.in_ok-shadowed.ensures (sym w.if-not-has.ensures) x
+          ∙ ap (λ s. rest s.keys) (sym w.others-is)
     ]
 
 pub returns : goal.returns

@@ -15,7 +15,7 @@ returns-in-Some c =
     let keys = c.as_slice.ensures.keys ∙ ap (λ (w : Value). w.names.keys) c.deref.ensures in
     on_ok_weaker c.put_all.result
     (λ m x. m x ∙ ap (λ ks. has_name c.args.arrived.now.keys x || has_name ks x) keys
-      ∙ ap (λ b. has_name c.args.arrived.now.keys x || b) (c.in-Some.ensures.known c.requires x ∙ arriving_one (found es) (plain c.args.symbol.now) (plain v.tree) c.in-Symbol.field-0.now x c.in-Symbol.ensures.plain c.in-Some.ensures.tree))
+    ∙ ap (λ b. has_name c.args.arrived.now.keys x || b) (c.in-Some.ensures.known c.requires x ∙ arriving_one (found es) (plain c.args.symbol.now) (plain v.tree) c.in-Symbol.field-0.now x c.in-Symbol.ensures.plain c.in-Some.ensures.tree))
     c.put_all.ensures
 
 pub returns-in-None : goal.returns-in-None

@@ -26,12 +26,12 @@ returns-in_err-renamed-clause-large c = λ l.
     let u = plain c.args.body.now in
     let ms = names_in (trees c.in_ok-met.met.keys) in
     let met : AreMet ms xs vs u = λ x.
-        sym (has_name-among c.in_ok-met.met.keys x) ∙ c.in_ok-met.ensures x
-        ∙ ap (λ b. b && is_name_among x (reached u)) (c.in_ok-targets.ensures x ∙ ap (λ b. is_some (vs x) && not b) (c.in_ok-shadowed.ensures x ∙ has_name-among ns x)) in
+    sym (has_name-among c.in_ok-met.met.keys x) ∙ c.in_ok-met.ensures x
+    ∙ ap (λ b. b && is_name_among x (reached u)) (c.in_ok-targets.ensures x ∙ ap (λ b. is_some (vs x) && not b) (c.in_ok-shadowed.ensures x ∙ has_name-among ns x)) in
     let before = names_in (trees c.in_ok-arrived.arrived.keys) in
     let after = arriving (reached u) (without_names xs vs) in
     let same : (y : Name) → is_name_among y before ≡ is_name_among y after = λ y.
-        sym (has_name-among c.in_ok-arrived.arrived.keys y) ∙ c.in_ok-arrived.ensures y ∙ arriving-met ms xs vs u met y in
+    sym (has_name-among c.in_ok-arrived.arrived.keys y) ∙ c.in_ok-arrived.ensures y ∙ arriving-met ms xs vs u met y in
     subst (OneTooLong xs) (λ i x. renamings-same before after (names u) xs same x i) (c.renamings.ensures.large w)
 
 pub returns-clause-renamed : goal.returns-clause-renamed
@@ -42,12 +42,12 @@ returns-clause-renamed c =
     let u = plain c.args.body.now in
     let ms = names_in (trees c.in_ok-met.met.keys) in
     let met : AreMet ms xs vs u = λ x.
-        sym (has_name-among c.in_ok-met.met.keys x) ∙ c.in_ok-met.ensures x
-        ∙ ap (λ b. b && is_name_among x (reached u)) (c.in_ok-targets.ensures x ∙ ap (λ b. is_some (vs x) && not b) (c.in_ok-shadowed.ensures x ∙ has_name-among ns x)) in
+    sym (has_name-among c.in_ok-met.met.keys x) ∙ c.in_ok-met.ensures x
+    ∙ ap (λ b. b && is_name_among x (reached u)) (c.in_ok-targets.ensures x ∙ ap (λ b. is_some (vs x) && not b) (c.in_ok-shadowed.ensures x ∙ has_name-among ns x)) in
     let before = names_in (trees c.in_ok-arrived.arrived.keys) in
     let after = arriving (reached u) (without_names xs vs) in
     let same : (y : Name) → is_name_among y before ≡ is_name_among y after = λ y.
-        sym (has_name-among c.in_ok-arrived.arrived.keys y) ∙ c.in_ok-arrived.ensures y ∙ arriving-met ms xs vs u met y in
+    sym (has_name-among c.in_ok-arrived.arrived.keys y) ∙ c.in_ok-arrived.ensures y ∙ arriving-met ms xs vs u met y in
     λ x. c.in_ok-renamed.ensures.value x ∙ renamings-same before after (names u) xs same x
 
 pub returns-clause-inner : goal.returns-clause-inner
@@ -60,18 +60,18 @@ returns-clause-inner c =
     let ks = c.in_ok-met.met.keys in
     let ms = names_in (trees ks) in
     let met : AreMet ms xs vs u = λ x.
-        sym (has_name-among ks x) ∙ c.in_ok-met.ensures x
-        ∙ ap (λ b. b && is_name_among x (reached u)) (c.in_ok-targets.ensures x ∙ ap (λ b. is_some (vs x) && not b) (c.in_ok-shadowed.ensures x ∙ has_name-among ns x)) in
+    sym (has_name-among ks x) ∙ c.in_ok-met.ensures x
+    ∙ ap (λ b. b && is_name_among x (reached u)) (c.in_ok-targets.ensures x ∙ ap (λ b. is_some (vs x) && not b) (c.in_ok-shadowed.ensures x ∙ has_name-among ns x)) in
     let before = names_in (trees c.in_ok-arrived.arrived.keys) in
     let after = arriving (reached u) (without_names xs vs) in
     let same : (y : Name) → is_name_among y before ≡ is_name_among y after = λ y.
-        sym (has_name-among c.in_ok-arrived.arrived.keys y) ∙ c.in_ok-arrived.ensures y ∙ arriving-met ms xs vs u met y in
+    sym (has_name-among c.in_ok-arrived.arrived.keys y) ∙ c.in_ok-arrived.ensures y ∙ arriving-met ms xs vs u met y in
     let first = values_in c.put_values.new.into in
     inside_met ms xs vs rs u ks ns (values_in c.put_values-2.new.into) met (has_name-among ks) (has_name-among ns)
     (λ x. c.in_ok-renamed.ensures.value x ∙ renamings-same before after (names u) xs same x)
     (λ x. c.in_ok-put_values-2.ensures.value x ∙ ap (λ es. put_values es vs first x) c.as_slice.ensures.keys
-      ∙ ap (λ o. or_else (elim (has_name ks x) [ true ↦ vs x | false ↦ None ]) o) (c.in_ok-put_values.ensures.value x
-      ∙ ap (λ (es : List Entry). or_else (elim (has_name ns x) [ true ↦ rs x | false ↦ None ]) (found es (symbol x))) c.new-inner.ensures))
+    ∙ ap (λ o. or_else (elim (has_name ks x) [ true ↦ vs x | false ↦ None ]) o) (c.in_ok-put_values.ensures.value x
+    ∙ ap (λ (es : List Entry). or_else (elim (has_name ns x) [ true ↦ rs x | false ↦ None ]) (found es (symbol x))) c.new-inner.ensures))
 
 pub returns-clause-passed : goal.returns-clause-passed
 returns-clause-passed c = λ ms f.

@@ -43,7 +43,7 @@ returns-in_err-symbol-2-clause-large c = λ l.
     let h : is_name_among before ts ≡ true = sym (has_name-among c.args.taken.now.keys before) ∙ ap (λ t. has_tree c.args.taken.now.keys (plain t)) (sym c.tries.invariant.symbol) ∙ sym c.tries-test.ensures in
     let q : new_name ts c.args.name.now ≡ fresh (longest ts + 1) ts (marked before) = c.tries.invariant.same ∙ one_more_try ts before h in
     λ fits. c.symbol-in-tries.ensures.large.0 w (subst (λ y. IsWithinLimits (symbol y)) (sym e)
-      (shorter_fits (marked before) (fresh (longest ts + 1) ts (marked before)) (no_shorter (longest ts + 1) ts (marked before)) (subst (λ y. IsWithinLimits (symbol y)) q fits)))
+    (shorter_fits (marked before) (fresh (longest ts + 1) ts (marked before)) (no_shorter (longest ts + 1) ts (marked before)) (subst (λ y. IsWithinLimits (symbol y)) q fits)))
 
 pub tries-init : goal.tries-init
 tries-init c =

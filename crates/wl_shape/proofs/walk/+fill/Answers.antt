@@ -49,9 +49,10 @@ filled-returns-in_err-new_head-in-Node-clause-made t c =
 pub filled-filled_args-requires : goal.filled-filled_args-requires
 filled-filled_args-requires t c =
     let h = plain c.in-Node.head.now in
-    let us = plains (from_list c.in-Node.args.now) in
-    (omega (arith, ap depth c.in-Node.ensures.plain),
-      λ b. c.requires (ap has_scope (sym c.in-Node.ensures.plain) ∙ among_parts (may_be_scope h us) (has_scope h) (have_scopes us) b))
+    let us = plains (from_list c.in-Node.args.now) in (
+      omega (arith, ap depth c.in-Node.ensures.plain),
+      λ b. c.requires (ap has_scope (sym c.in-Node.ensures.plain) ∙ among_parts (may_be_scope h us) (has_scope h) (have_scopes us) b),
+    )
 
 pub filled-returns-in_err-new_args-in-Node-clause-made : goal.filled-returns-in_err-new_args-in-Node-clause-made
 filled-returns-in_err-new_args-in-Node-clause-made t c =
@@ -94,23 +95,23 @@ filled_all-loop-k-preserved t c =
     let p = c.index-args-k.is in
     elim c.match-branch-2.branch [
       | filled_all-in-Some+in_ok-catch_up+in_ok-push w ↦
-        let caught : w.catch_up.new.all.items ≡ all ++ drop (length all) (take k es) = grind (arith, common_steps) in
-        let after : c.match-branch-2.all.items ≡ w.catch_up.new.all.items ++ w.in-Some.e ∷ [] = ap (λ (v : Vec Stamped Global). v.items) w.all-is ∙ w.in_ok-push.ensures.items in
-        let made : plain w.in-Some.e ≡ fill vs (plain e) = ap (λ o. unwrap_or (option_map plain o) (plain e)) (sym w.in-Some.is) ∙ c.in_ok-e.ensures.made.tree in
-        record {
-          few = few_more all (take k es) w.catch_up.new.all.items c.match-branch-2.all.items k w.in-Some.e c.loop-k.invariant.few (length-taken es k (omega (arith, l))) caught after;
-          value = changes (fill_all vs) (fill vs) refl (λ t ts. refl) es all w.catch_up.new.all.items c.match-branch-2.all.items k e w.in-Some.e _ l p c.loop-k.invariant.few made caught after c.loop-k.invariant.value;
-          passed = λ ms f g. all_caught ms es all w.catch_up.new.all.items c.match-branch-2.all.items k w.in-Some.e caught after f (c.loop-k.invariant.passed ms f g) (subst (λ o. IfSome o (IsFrom ms)) w.in-Some.is (c.in_ok-e.ensures.passed ms (subst (IsFrom ms) (sym p) (f k e l)) g));
-        }
+          let caught : w.catch_up.new.all.items ≡ all ++ drop (length all) (take k es) = grind (arith, common_steps) in
+          let after : c.match-branch-2.all.items ≡ w.catch_up.new.all.items ++ w.in-Some.e ∷ [] = ap (λ (v : Vec Stamped Global). v.items) w.all-is ∙ w.in_ok-push.ensures.items in
+          let made : plain w.in-Some.e ≡ fill vs (plain e) = ap (λ o. unwrap_or (option_map plain o) (plain e)) (sym w.in-Some.is) ∙ c.in_ok-e.ensures.made.tree in
+          record {
+            few = few_more all (take k es) w.catch_up.new.all.items c.match-branch-2.all.items k w.in-Some.e c.loop-k.invariant.few (length-taken es k (omega (arith, l))) caught after;
+            value = changes (fill_all vs) (fill vs) refl (λ t ts. refl) es all w.catch_up.new.all.items c.match-branch-2.all.items k e w.in-Some.e _ l p c.loop-k.invariant.few made caught after c.loop-k.invariant.value;
+            passed = λ ms f g. all_caught ms es all w.catch_up.new.all.items c.match-branch-2.all.items k w.in-Some.e caught after f (c.loop-k.invariant.passed ms f g) (subst (λ o. IfSome o (IsFrom ms)) w.in-Some.is (c.in_ok-e.ensures.passed ms (subst (IsFrom ms) (sym p) (f k e l)) g));
+          }
       | filled_all-in_default w ↦
-        let same : plain e ≡ fill vs (plain e) = ap (λ o. unwrap_or (option_map plain o) (plain e)) (sym w.in_default.is) ∙ c.in_ok-e.ensures.made.tree in
-        let after : c.match-branch-2.all.items ≡ all = ap (λ (v : Vec Stamped Global). v.items) w.all-is in
-        record {
-          few = omega (arith, ap length after, c.loop-k.invariant.few);
-          value = stays (fill_all vs) (fill vs) refl (λ t ts. refl) es all k e _ l p c.loop-k.invariant.few same c.loop-k.invariant.value
-              ∙ ap (λ us. trees (us ++ drop (length us) (take (k + 1) es)) ++ to_list (fill_all vs (plains (from_list (drop (k + 1) es))))) (sym after);
-          passed = λ ms f g. subst (AllFrom ms) (sym after) (c.loop-k.invariant.passed ms f g);
-        }
+          let same : plain e ≡ fill vs (plain e) = ap (λ o. unwrap_or (option_map plain o) (plain e)) (sym w.in_default.is) ∙ c.in_ok-e.ensures.made.tree in
+          let after : c.match-branch-2.all.items ≡ all = ap (λ (v : Vec Stamped Global). v.items) w.all-is in
+          record {
+            few = omega (arith, ap length after, c.loop-k.invariant.few);
+            value = stays (fill_all vs) (fill vs) refl (λ t ts. refl) es all k e _ l p c.loop-k.invariant.few same c.loop-k.invariant.value
+                ∙ ap (λ us. trees (us ++ drop (length us) (take (k + 1) es)) ++ to_list (fill_all vs (plains (from_list (drop (k + 1) es))))) (sym after);
+            passed = λ ms f g. subst (AllFrom ms) (sym after) (c.loop-k.invariant.passed ms f g);
+          }
     ]
 
 pub filled_all-returns-clause-made : goal.filled_all-returns-clause-made
@@ -132,9 +133,16 @@ filled_args-filled_scope-requires t c =
     let h = plain c.args.head.now in
     let es = c.args.args.now in
     let s = ap (option_map (λ v. trees v.items)) (sym c.in-Some.is) ∙ c.in_ok-names.ensures in
-    let q : Some (trees c.as_slice.result.now) ≡ symbols_in (parameters h (plains (from_list es))) = ap (λ us. Some (trees us)) c.as_slice.ensures.value ∙ s in
-    (omega arith, (scope_of_two h es (trees c.as_slice.result.now) q, (are_parameters h es (trees c.as_slice.result.now) q,
-      c.requires (or_left (may_be_scope h (plains (from_list es))) (have_scopes (plains (from_list es))) (scope_is h (plains (from_list es)) (trees c.as_slice.result.now) q)))))
+    let q : Some (trees c.as_slice.result.now) ≡ symbols_in (parameters h (plains (from_list es))) = ap (λ us. Some (trees us)) c.as_slice.ensures.value ∙ s in (
+      omega arith,
+      (
+        scope_of_two h es (trees c.as_slice.result.now) q,
+        (
+          are_parameters h es (trees c.as_slice.result.now) q,
+          c.requires (or_left (may_be_scope h (plains (from_list es))) (have_scopes (plains (from_list es))) (scope_is h (plains (from_list es)) (trees c.as_slice.result.now) q)),
+        ),
+      ),
+    )
 
 pub filled_args-filled_all-requires : goal.filled_args-filled_all-requires
 filled_args-filled_all-requires t c =
@@ -165,9 +173,9 @@ filled_scope-returns-then-not-any_near-clause-made t c =
     let ns = c.args.names.now in
     let xs = names_in (trees ns) in
     let clear_all : (x : Name) → is_name_among x xs ≡ true → IsClear (values_in v) x = λ x m.
-        clear v x c.requires.ready (none_is v.near.keys ns x (sym c.if-not-any_near.ensures) (has_name-among ns x ∙ m)) in
+    clear v x c.requires.ready (none_is v.near.keys ns x (sym c.if-not-any_near.ensures) (has_name-among ns x ∙ m)) in
     let i : inside_with c.new-none.result v ≡ inside xs (values_in v) (plains (from_list es)) =
-        (λ j. record { renamed = λ x. found (c.new-none.ensures j) (tree.symbol x); inner = values_in v }) ∙ sym (untouched xs (values_in v) (plains (from_list es)) clear_all) in
+    (λ j. record { renamed = λ x. found (c.new-none.ensures j) (tree.symbol x); inner = values_in v }) ∙ sym (untouched xs (values_in v) (plains (from_list es)) clear_all) in
     subst (λ s. AreRenewed es (fill_scope (values_in v) s (plains (from_list es))) c.filled_pair.result) i c.filled_pair.ensures.made
 
 pub filled_scope-returns-in_err-scope-clause-made : goal.filled_scope-returns-in_err-scope-clause-made
@@ -212,23 +220,23 @@ filled_formals-loop-k-preserved t c =
     let p = c.index-formals-k.is in
     elim c.match-branch-2.branch [
       | filled_formals-in-Some+in_ok-catch_up+in_ok-push w ↦
-        let caught : w.catch_up.new.all.items ≡ all ++ drop (length all) (take k es) = grind (arith, common_steps) in
-        let after : c.match-branch-2.all.items ≡ w.catch_up.new.all.items ++ w.in-Some.e ∷ [] = ap (λ (v : Vec Stamped Global). v.items) w.all-is ∙ w.in_ok-push.ensures.items in
-        let made : plain w.in-Some.e ≡ fill_formal vs rs (plain e) = ap (λ o. unwrap_or (option_map plain o) (plain e)) (sym w.in-Some.is) ∙ c.in_ok-e.ensures.made.tree in
-        record {
-          few = few_more all (take k es) w.catch_up.new.all.items c.match-branch-2.all.items k w.in-Some.e c.loop-k.invariant.few (length-taken es k (omega (arith, l))) caught after;
-          value = changes (fill_formals vs rs) (fill_formal vs rs) refl (λ t ts. refl) es all w.catch_up.new.all.items c.match-branch-2.all.items k e w.in-Some.e _ l p c.loop-k.invariant.few made caught after c.loop-k.invariant.value;
-          passed = λ ms f g r. all_caught ms es all w.catch_up.new.all.items c.match-branch-2.all.items k w.in-Some.e caught after f (c.loop-k.invariant.passed ms f g r) (subst (λ o. IfSome o (IsFrom ms)) w.in-Some.is (c.in_ok-e.ensures.passed ms (subst (IsFrom ms) (sym p) (f k e l)) g r));
-        }
+          let caught : w.catch_up.new.all.items ≡ all ++ drop (length all) (take k es) = grind (arith, common_steps) in
+          let after : c.match-branch-2.all.items ≡ w.catch_up.new.all.items ++ w.in-Some.e ∷ [] = ap (λ (v : Vec Stamped Global). v.items) w.all-is ∙ w.in_ok-push.ensures.items in
+          let made : plain w.in-Some.e ≡ fill_formal vs rs (plain e) = ap (λ o. unwrap_or (option_map plain o) (plain e)) (sym w.in-Some.is) ∙ c.in_ok-e.ensures.made.tree in
+          record {
+            few = few_more all (take k es) w.catch_up.new.all.items c.match-branch-2.all.items k w.in-Some.e c.loop-k.invariant.few (length-taken es k (omega (arith, l))) caught after;
+            value = changes (fill_formals vs rs) (fill_formal vs rs) refl (λ t ts. refl) es all w.catch_up.new.all.items c.match-branch-2.all.items k e w.in-Some.e _ l p c.loop-k.invariant.few made caught after c.loop-k.invariant.value;
+            passed = λ ms f g r. all_caught ms es all w.catch_up.new.all.items c.match-branch-2.all.items k w.in-Some.e caught after f (c.loop-k.invariant.passed ms f g r) (subst (λ o. IfSome o (IsFrom ms)) w.in-Some.is (c.in_ok-e.ensures.passed ms (subst (IsFrom ms) (sym p) (f k e l)) g r));
+          }
       | filled_formals-in_default w ↦
-        let same : plain e ≡ fill_formal vs rs (plain e) = ap (λ o. unwrap_or (option_map plain o) (plain e)) (sym w.in_default.is) ∙ c.in_ok-e.ensures.made.tree in
-        let after : c.match-branch-2.all.items ≡ all = ap (λ (v : Vec Stamped Global). v.items) w.all-is in
-        record {
-          few = omega (arith, ap length after, c.loop-k.invariant.few);
-          value = stays (fill_formals vs rs) (fill_formal vs rs) refl (λ t ts. refl) es all k e _ l p c.loop-k.invariant.few same c.loop-k.invariant.value
-              ∙ ap (λ us. trees (us ++ drop (length us) (take (k + 1) es)) ++ to_list (fill_formals vs rs (plains (from_list (drop (k + 1) es))))) (sym after);
-          passed = λ ms f g r. subst (AllFrom ms) (sym after) (c.loop-k.invariant.passed ms f g r);
-        }
+          let same : plain e ≡ fill_formal vs rs (plain e) = ap (λ o. unwrap_or (option_map plain o) (plain e)) (sym w.in_default.is) ∙ c.in_ok-e.ensures.made.tree in
+          let after : c.match-branch-2.all.items ≡ all = ap (λ (v : Vec Stamped Global). v.items) w.all-is in
+          record {
+            few = omega (arith, ap length after, c.loop-k.invariant.few);
+            value = stays (fill_formals vs rs) (fill_formal vs rs) refl (λ t ts. refl) es all k e _ l p c.loop-k.invariant.few same c.loop-k.invariant.value
+                ∙ ap (λ us. trees (us ++ drop (length us) (take (k + 1) es)) ++ to_list (fill_formals vs rs (plains (from_list (drop (k + 1) es))))) (sym after);
+            passed = λ ms f g r. subst (AllFrom ms) (sym after) (c.loop-k.invariant.passed ms f g r);
+          }
     ]
 
 pub filled_formals-returns-clause-made : goal.filled_formals-returns-clause-made

@@ -17,9 +17,9 @@ loop-at-preserved c = λ x.
     let place = entry_at es i e c.in-Some.ensures.entry in
     elim c.if-not-has.branch [
       | then-not-has+in_ok-put w ↦
-        c.loop-at.invariant x ∙ next_kept es i e ss ks w.put.new.names.keys place.0 place.1 (sym w.if-not-has.ensures) w.in_ok-put.ensures x
-        ∙ ap (λ s. has_name s.keys x || (is_some (found (drop (i + 1) es) (symbol x)) && not (has_name ss x))) (sym w.names-is)
+          c.loop-at.invariant x ∙ next_kept es i e ss ks w.put.new.names.keys place.0 place.1 (sym w.if-not-has.ensures) w.in_ok-put.ensures x
+          ∙ ap (λ s. has_name s.keys x || (is_some (found (drop (i + 1) es) (symbol x)) && not (has_name ss x))) (sym w.names-is)
       | else-not-has w ↦
-        c.loop-at.invariant x ∙ next_left_out es i e ss ks place.0 place.1 (sym w.if-not-has.ensures) x
-        ∙ ap (λ s. has_name s.keys x || (is_some (found (drop (i + 1) es) (symbol x)) && not (has_name ss x))) (sym w.names-is)
+          c.loop-at.invariant x ∙ next_left_out es i e ss ks place.0 place.1 (sym w.if-not-has.ensures) x
+          ∙ ap (λ s. has_name s.keys x || (is_some (found (drop (i + 1) es) (symbol x)) && not (has_name ss x))) (sym w.names-is)
     ]
