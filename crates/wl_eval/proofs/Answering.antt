@@ -1,5 +1,5 @@
 -- What rows that look at their elements alone answer.
-use Rattle.std.proofs.Common.{◌≡◌, Bool, true, false, List, [], Some, None, Result, Ok, Err, IfOk, refl, sym, ◌∙◌, subst, true≢false}
+use Rattle.std.proofs.Common.{◌≡◌, Bool, true, false, List, [], Option, Some, None, Result, Ok, Err, IfOk, refl, sym, ◌∙◌, subst, true≢false}
 use Rattle.std.specs.Prelude.{⊤}
 use Rattle.std.specs.List.{All}
 use Rattle.wl_algebra.specs.Answers as algebra
@@ -16,7 +16,7 @@ use Rattle.wl_expr.specs.declared.fault.ExprFault.{ExprFault}
 use Rattle.wl_expr.specs.declared.fault.ExprFault.TheVariants as fault
 use Rattle.wl_expr.proofs.Passing.{all_from}
 use Rattle.wl_expr.proofs.Small.{fits_decides}
-use Rattle.wl_eval.specs.Prog.{done, ◌>>=◌, sized}
+use Rattle.wl_eval.specs.Prog.{Prog, done, ◌>>=◌, sized}
 use Rattle.wl_eval.specs.BuiltIn.{sized_result}
 use Rattle.wl_eval.specs.PureRows.{applied_by, notify}
 use Rattle.wl_eval.specs.Parts.{Answers, AnswerFits, AnswerIsLarge, HonestApplied, sized_row}
@@ -30,6 +30,11 @@ use Rattle.wl_eval.proofs.Fitting.{plays_fits, sized_large}
 use Rattle.wl_eval.specs.Played as played
 
 -- ---- sizes
+
+-- what was found fits
+abbrev pub OptionFits : Option Tree → Type 0
+OptionFits None = ⊤
+OptionFits (Some t) = fits t ≡ true
 
 -- what comes with a message fits
 abbrev pub NoticeFits : Applied → Type 0
@@ -170,3 +175,16 @@ module _ (a : Applied) (k : Evaluator) (r : Result code.Applied ExprFault) (h : 
 -- what was answered is honest
 pub honest_answer : (k : Evaluator) (r : Result code.Applied ExprFault) (v : code.Applied) → r ≡ Ok v → IfOk r (HonestApplied k) → HonestApplied k v
 honest_answer k r v q h = subst (λ z. IfOk z (HonestApplied k)) q h
+
+-- ---- rows whose result is an expression, and rows that stop
+
+pub row_plays : (p : Prog (Option Tree)) (k k' : Evaluator) (o : Option Tree) → OptionFits o → Plays p k (Ok o) k' false → Plays (sized_row p) k (Ok o) k' false
+row_plays p k k' None f h = plays_bind p _ h plays_done
+row_plays p k k' (Some t) f h = plays_bind p _ h (sized_gives t k' f)
+
+pub row_stops : (p : Prog (Option Tree)) (k k' : Evaluator) (e : Stop) → Played found_tree p k (Err e) k' → Played found_tree (sized_row p) k (Err e) k'
+row_stops p k k' e h = played_stop found_tree found_tree p _ k e k' h
+
+-- a result that doesn't fit
+pub row_large : (p : Prog (Option Tree)) (t : Tree) (k k1 k' : Evaluator) (e : Stop) → fits t ≡ false → Plays p k (Ok (Some t)) k1 false → TooLarge k1 e k' → Played found_tree (sized_row p) k (Err e) k'
+row_large p t k k1 k' e f h g = played_bind found_tree p _ k k1 (Some t) (Err e) k' h (played_stop played.itself found_tree (sized t) _ k1 e k' (sized_large played.itself t k1 k' e f g))

@@ -1,5 +1,5 @@
 -- The turn of a node by its shape.
-use Rattle.std.proofs.Common.{◌≡◌, ◌≤◌, ℕ, Bool, false, List, [], ◌∷◌, None, Result, Ok, Err, sym, subst, arith, le_trans}
+use Rattle.std.proofs.Common.{◌≡◌, ◌≤◌, ℕ, Bool, false, List, [], ◌∷◌, None, Result, Ok, Err, sym, ap, ◌∙◌, subst, arith, le_trans}
 use Rattle.std.specs.Prelude.{⊤, codes}
 use Rattle.std.specs.List.{All}
 use Rattle.wl_expr.specs.Passed.{IsFrom}
@@ -18,7 +18,7 @@ use Rattle.wl_shape.specs.declared.arrangement.Shaped as code
 use Rattle.wl_shape.specs.declared.arrangement.Shaped.TheVariants as variant
 use Rattle.wl_shape.proofs.ShapeSize.{shape-size}
 use Rattle.wl_eval.specs.Prog.{message, sized}
-use Rattle.wl_eval.specs.Elements.{bared}
+use Rattle.wl_eval.specs.Elements.{bared, is_bared}
 use Rattle.wl_eval.specs.State.{Next}
 use Rattle.wl_eval.specs.Turn.{shaped_turn, rules_turn}
 use Rattle.wl_eval.specs.Played as played
@@ -32,6 +32,7 @@ use Rattle.wl_eval.proofs.Rows.{played_bind, played_stop}
 use Rattle.wl_eval.proofs.Values.{built_honest, passed_honest}
 use Rattle.wl_eval.proofs.Fitting.{plays_fits, sized_large}
 use Rattle.wl_eval.proofs.Answering.{beyond}
+use Rattle.wl_eval.proofs.Shapings.{not_bared}
 
 -- ---- stamps
 
@@ -92,3 +93,10 @@ module _ (a : AttributeSet) (first : Tree) (c : Bool) (s : Shaped) (k : Evaluato
   pub uneven_plays : (t : Tree) (k1 : Evaluator) (r : Result turneds.Turned Stop) (k' : Evaluator) → uneven t ≡ s → Plays (message (codes "Thread") (codes "tdlen") (t ∷ [])) k (Ok tt) k1 false
       → Played turned (rules_turn a first c t) k1 r k' → Played turned (shaped_turn a first c s) k r k'
   uneven_plays t k1 r k' e m h = subst (λ z. Played turned (shaped_turn a first c z) k r k') e (played_bind turned (message (codes "Thread") (codes "tdlen") (t ∷ [])) _ k k1 tt r k' m h)
+
+-- the first form, where it is shaped already
+pub stays_plays : (a : AttributeSet) (h : Tree) (vs : List Tree) (first : Tree) (c : Bool) (k : Evaluator) (r : Result turneds.Turned Stop) (k' : Evaluator) → is_bared a vs ≡ false → first ≡ applied h vs
+    → shape a h vs ≡ rebuilt (applied h vs) → c ≡ is_bared a vs → Played turned (rules_turn a first c first) k r k' → Played turned (shaped_turn a first (is_bared a vs) (shape a h (bared a vs))) k r k'
+stays_plays a h vs first c k r k' n e s q m =
+    let w : shape a h (bared a vs) ≡ rebuilt first = ap (shape a h) (not_bared a vs n) ∙ s ∙ ap rebuilt (sym e) in
+    subst (λ z. Played turned (shaped_turn a first (is_bared a vs) z) k r k') (sym w) (subst (λ b. Played turned (rules_turn a first b first) k r k') q m)

@@ -3,16 +3,18 @@ use Rattle.std.proofs.Common.{◌≡◌, ◌<◌, ◌+◌, ℕ, suc, Bool, true,
 use Rattle.std.proofs.lemmas.List.{map-append}
 use Rattle.std.proofs.lemmas.List.Elements.{All-push, filter_map-append}
 use Rattle.std.specs.List.{list_any}
-use Rattle.std.specs.Prelude.{Option, Some, None, if◌then◌else◌, bytes_eq}
+use Rattle.std.specs.Prelude.{Option, Some, None, if◌then◌else◌, bytes_eq, codes}
 use Rattle.indexmap.specs.IndexSet.{insert_key}
 use Rattle.wl_expr.specs.Passed.{IsFrom}
 use Rattle.wl_expr.specs.Same.{same, same_decides, is_name_among, first_names}
 use Rattle.wl_expr.specs.Stamped as stamped
 use Rattle.wl_expr.specs.Stamped.{Stamped, plain, without_stamp}
 use Rattle.wl_expr.specs.Tree.{Tree, num, text, symbol, node, none, more}
-use Rattle.wl_expr.specs.Words.{Name, name_of}
+use Rattle.wl_expr.specs.Sorted.{sorted}
+use Rattle.wl_expr.specs.Words.{Name, applied, is_form, is_the, name_of}
 use Rattle.wl_rules.specs.Attributes.{AttributeSet}
 use Rattle.wl_shape.specs.Answers.{AllFrom}
+use Rattle.wl_shape.specs.Shape.{rebuilt, spliced, spliced_all, spliced_list, without_sequences, flattened, first_length, thread_by, thread, shape}
 use Rattle.wl_eval.specs.Elements.{bare, bared, is_bared, is_unevaluated}
 use Rattle.wl_eval.specs.Parts.{turned_by, up_symbol}
 use Rattle.wl_eval.specs.Played.{trees}
@@ -163,3 +165,37 @@ turned_same form last next v b o e s q =
 pub turned_new : (form last next : Stamped) (b : Bool) (o : Option Stamped) → o ≡ Some next → (plain next ≡ plain form → ⊥) → Next next ≡ turned_by form last b o
 turned_new form last next b o e n =
     ap (λ (z : Bool). elim z [ true ↦ Final (without_stamp last) b | false ↦ Next next ]) (sym (not_same (plain next) (plain form) n)) ∙ ap (turned_by form last b) (sym e)
+
+-- ---- what is shaped already
+
+same_form : (x : Name) (h : Tree) → same (symbol x) h ≡ is_the x h
+same_form x (num n) = refl
+same_form x (text s) = refl
+same_form x (symbol y) = refl
+same_form x (node h ts) = refl
+
+not_spliced : (x : Name) (t : Tree) → is_form x t ≡ false → spliced (symbol x) t ≡ t ∷ []
+not_spliced x (num n) e = refl
+not_spliced x (text s) e = refl
+not_spliced x (symbol y) e = refl
+not_spliced x (node h ts) e = ap (λ (b : Bool). elim b [ true ↦ spliced_all (symbol x) ts | false ↦ node h ts ∷ [] ]) (same_form x h ∙ e)
+
+none_spliced : (x : Name) (ts : List Tree) → list_any (is_form x) ts ≡ false → spliced_list (symbol x) ts ≡ ts
+none_spliced x [] h = refl
+none_spliced x (t ∷ ts) h = go (is_form x t) refl h (none_spliced x ts)
+  where
+    go : (b : Bool) → is_form x t ≡ b → (b || list_any (is_form x) ts) ≡ false → (list_any (is_form x) ts ≡ false → spliced_list (symbol x) ts ≡ ts) → spliced (symbol x) t ++ spliced_list (symbol x) ts ≡ t ∷ ts
+    go true e f r = absurd (true≢false f)
+    go false e f r = ap (λ us. us ++ spliced_list (symbol x) ts) (not_spliced x t e) ∙ ap (λ us. t ∷ us) (r f)
+
+pub shape_stays : (a : AttributeSet) (ts : List Tree) → a.flat ≡ false → a.listable ≡ false → a.orderless ≡ false → list_any (is_form (codes "Sequence")) ts ≡ false → (h : Tree) → shape a h ts ≡ rebuilt (applied h ts)
+shape_stays a ts f l o n h =
+    let w : without_sequences a ts ≡ ts = go (a.sequence_hold || a.hold_all_complete) in
+    ap (λ us. thread a h (flattened a h us)) w
+    ∙ ap (λ (b : Bool). thread a h (elim b [ true ↦ spliced_list h ts | false ↦ ts ])) f
+    ∙ ap (λ (b : Bool). elim b [ true ↦ thread_by (first_length ts) a h ts | false ↦ thread_by None a h ts ]) l
+    ∙ ap (λ (b : Bool). rebuilt (applied h (elim b [ true ↦ sorted ts | false ↦ ts ]))) o
+  where
+    go : (b : Bool) → elim b [ true ↦ ts | false ↦ spliced_list (symbol (codes "Sequence")) ts ] ≡ ts
+    go true = refl
+    go false = none_spliced (codes "Sequence") ts n

@@ -12,7 +12,7 @@ use Rattle.wl_lists.specs.Table as lists
 use Rattle.wl_eval.specs.Prog.{done}
 use Rattle.wl_eval.specs.Control.{control_row, iterated, iterator_name}
 use Rattle.wl_eval.specs.BuiltIn.{Row, row_in, definition_rows, entry_rows, match_rows, scope_rows, end_rows, message_rows, special_row, row_by, row}
-use Rattle.wl_eval.specs.Kinds.{row_of, defining_row_of, other_row_of}
+use Rattle.wl_eval.specs.Kinds.{begins_capital, row_of, defining_row_of, other_row_of}
 use Rattle.wl_eval.specs.PureRows.{applied_by, or_lists, pure_row}
 
 -- ---- one table after the other
@@ -131,3 +131,37 @@ pub row_none : (x : Name) (es : List Tree) → algebra.row_of x ≡ None → lis
 row_none x es a l o c =
     let n : control_row x ≡ None = ap (λ z. elim z [ None ↦ None | Some f ↦ Some (λ ts. iterated (iterator_name x ts) (f ts)) ]) c in
     row_pure x es (special-is x ∙ ap (λ z. or_row z (control_row x)) o ∙ n) ∙ ap (λ z. applied_by (or_lists (algebra.by_row z es) x es)) a ∙ ap (λ z. applied_by (lists.by_row z es)) l
+
+-- ---- a name that begins otherwise
+
+at_special : (t : Name → Bool) (rs : List (Name × Row)) (x : Name) (o : Option Row) → list_all (λ r. t r.0) rs ≡ true → t x ≡ false → row_in x rs o ≡ o
+at_special t [] x o h n = refl
+at_special t (r ∷ rs) x o h n = go (bytes_eq x r.0) refl (both_true (t r.0) (list_all (λ q. t q.0) rs) h) (at_special t rs x o)
+  where
+    go : (b : Bool) → bytes_eq x r.0 ≡ b → (t r.0 ≡ true) × (list_all (λ q. t q.0) rs ≡ true) → (list_all (λ q. t q.0) rs ≡ true → t x ≡ false → row_in x rs o ≡ o)
+        → elim b [ true ↦ Some r.1 | false ↦ row_in x rs o ] ≡ o
+    go true q h m = absurd (true≢false (sym (ap t ((bytes_eq-Decides x r.0).0 q) ∙ h.0) ∙ n))
+    go false q h m = m h.1 n
+
+at_control : (t : Name → Bool) (rs : List (Name × control.Row)) (x : Name) → list_all (λ r. t r.0) rs ≡ true → t x ≡ false → control.row_in x rs ≡ None
+at_control t [] x h n = refl
+at_control t (r ∷ rs) x h n = go (bytes_eq x r.0) refl (both_true (t r.0) (list_all (λ q. t q.0) rs) h) (at_control t rs x)
+  where
+    go : (b : Bool) → bytes_eq x r.0 ≡ b → (t r.0 ≡ true) × (list_all (λ q. t q.0) rs ≡ true) → (list_all (λ q. t q.0) rs ≡ true → t x ≡ false → control.row_in x rs ≡ None)
+        → (if b then Some r.1 else control.row_in x rs) ≡ None
+    go true q h m = absurd (true≢false (sym (ap t ((bytes_eq-Decides x r.0).0 q) ∙ h.0) ∙ n))
+    go false q h m = m h.1 n
+
+none_if : {A : Type 0} (o : Option A) → ((a : A) → Some a ≡ o → ⊥) → o ≡ None
+none_if None h = refl
+none_if (Some a) h = absurd (h a refl)
+
+pub row_otherwise : (x : Name) (es : List Tree) → begins_capital x ≡ false → row x es ≡ done None
+row_otherwise x es n =
+    let b : Name → Bool = begins_capital in
+    row_none x es
+    (none_if (algebra.row_of x) (λ f e. true≢false (sym (at_algebra b algebra.rows x f refl e) ∙ n)))
+    (none_if (lists.row_of x) (λ f e. true≢false (sym (at_lists b lists.rows x f refl e) ∙ n)))
+    (at_special b definition_rows x _ refl n ∙ at_special b entry_rows x _ refl n ∙ at_special b match_rows x _ refl n ∙ at_special b scope_rows x _ refl n ∙ at_special b end_rows x _ refl n
+    ∙ at_special b message_rows x None refl n)
+    (at_control b control.rows x refl n)

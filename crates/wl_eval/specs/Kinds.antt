@@ -1,5 +1,5 @@
 -- The rows that evaluate or that change something, by their kinds.
-use Rattle.std.specs.Prelude.{Option, None}
+use Rattle.std.specs.Prelude.{Bool, false, ◌&&◌, nat_le, [], ◌∷◌, Option, None}
 use Rattle.wl_expr.specs.Words.{Name}
 use Rattle.wl_eval.specs.Definitions.{set_row, set_delayed_row, up_set_row, up_set_delayed_row, tag_set_row, tag_set_delayed_row, unset_row, tag_unset_row, add_to_row, subtract_from_row, times_by_row, divide_by_row, append_to_row, prepend_to_row, pre_increment_row, pre_decrement_row, increment_row, decrement_row}
 use Rattle.wl_eval.specs.EntryRows.{clear_row, clear_all_row, attributes_row, set_attributes_row, clear_attributes_row, protect_row, unprotect_row}
@@ -10,6 +10,11 @@ use Rattle.wl_eval.specs.MessageRows.{print_row, message_row, off_row, on_row, m
 use Rattle.wl_eval.specs.BuiltIn.{Row, row_in, definition_rows, entry_rows, match_rows, scope_rows, end_rows, message_rows}
 use Rattle.wl_eval.specs.declared.kind.Kind as kind
 use Rattle.wl_eval.specs.declared.kind.Kind.TheVariants.{Set, SetDelayed, UpSet, UpSetDelayed, TagSet, TagSetDelayed, Unset, TagUnset, AddTo, SubtractFrom, TimesBy, DivideBy, AppendTo, PrependTo, PreIncrement, PreDecrement, Increment, Decrement, Clear, ClearAll, Attributes, SetAttributes, ClearAttributes, Protect, Unprotect, MatchQ, MemberQ, Count, Cases, DeleteCases, FreeQ, Replace, ReplaceAll, ReplaceRepeated, Module, With, Block, Throw, Catch, Abort, CheckAbort, Break, Continue, Print, Message, Off, On, MessageName, Quiet, Check, Out, In}
+
+-- names of built-in functions begin with a capital letter
+abbrev pub begins_capital : Name → Bool
+begins_capital [] = false
+begins_capital (c ∷ cs) = nat_le 65 c && nat_le c 90
 
 -- the row of a name, where it isn't one of loops and branches
 abbrev pub row_of : Name → Option Row

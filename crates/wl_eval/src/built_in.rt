@@ -4,7 +4,7 @@ ghost use Rattle.wl_expr.specs.Applied as answers;
 ghost use Rattle.wl_expr.specs.Applied.{plain_notice};
 ghost use Rattle.wl_expr.specs.Stamped.{plain};
 ghost use Rattle.wl_eval.specs.BuiltIn as table;
-ghost use Rattle.wl_eval.specs.Kinds.{row_by};
+ghost use Rattle.wl_eval.specs.Kinds.{begins_capital, row_by};
 ghost use Rattle.wl_eval.specs.Parts.{Answers, HonestApplied, sized_row};
 ghost use Rattle.wl_eval.specs.Played.{AllHonest, Honest, Played, Plays, Sound, found_tree, trees};
 ghost use Rattle.wl_eval.specs.PureRows as pure;
@@ -18,6 +18,16 @@ use wl_control::Cursor;
 use wl_expr::{Applied, Expr, ExprFault, Look, Notice};
 use wl_ports::{Ledger, Memory, Work};
 use wl_rules::Attributes;
+
+/// Whether a name begins as each of a built-in function does.
+fn begins_capital(name: &str) -> bool
+    ensures { result ≡ begins_capital name.now }
+{
+    match name.as_bytes().first() {
+        Some(byte) => *byte >= b'A' && *byte <= b'Z',
+        None => false,
+    }
+}
 
 impl Evaluator {
     /// The result of the built-in rule of a form, where there is one.
@@ -58,6 +68,9 @@ impl Evaluator {
         ensures played { Played found_tree (sized_row (table.row name.now (trees args.now))) self.old result self.new }
         ensures falls { self.new.steps ≤ self.old.steps }
     {
+        if !begins_capital(name) {
+            return Ok(None);
+        }
         if let Some(kind) = wl_algebra::Kind::named(name) {
             let answer = kind.apply(self.alloc, args);
             return self.answered(answer, work);

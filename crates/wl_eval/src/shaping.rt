@@ -1,14 +1,16 @@
 //! The shape of a node without Unevaluated, and the attributes of its head.
-ghost use Rattle.std.specs.Prelude.{◌≡◌, IfOk, List, Ok, false, map};
+ghost use Rattle.std.specs.Prelude.{◌≡◌, IfOk, List, Ok, false, map, true};
 ghost use Rattle.wl_expr.specs.Passed.{IsFrom};
 ghost use Rattle.wl_expr.specs.Stamped.{Stamped, plain};
+ghost use Rattle.wl_expr.specs.Tree.{Tree};
+ghost use Rattle.wl_expr.specs.Words.{applied};
 ghost use Rattle.wl_shape.specs.Answers.{AllFrom, IsShaped, ShapedIsFrom};
-ghost use Rattle.wl_shape.specs.Shape.{shape};
+ghost use Rattle.wl_shape.specs.Shape.{rebuilt, shape};
 ghost use Rattle.wl_eval.specs.Elements.{bare, bared, is_bared, is_unevaluated};
 ghost use Rattle.wl_eval.specs.Played.{Plays, Sound, trees};
 ghost use Rattle.wl_eval.specs.Prog as prog;
 
-use crate::elements::is_symbol;
+use crate::elements::{is_form, is_symbol};
 use crate::evaluator::Evaluator;
 use std::alloc::Global;
 use wl_expr::{Expr, ExprFault, Look};
@@ -61,6 +63,24 @@ fn all_bare(alloc: Global, values: &[Expr]) -> Result<Vec<Expr>, Memory>
         all.push(bare(value).copy()?)?;
     }
     Ok(all)
+}
+
+/// Whether a node of these elements is shaped already.
+pub(crate) fn stays(attributes: Attributes, values: &[Expr]) -> bool
+    ensures { result ≡ true → (h : Tree) → shape attributes h (trees values.now) ≡ rebuilt (applied h (trees values.now)) }
+{
+    if attributes.has(Attribute::Flat)
+        || attributes.has(Attribute::Listable)
+        || attributes.has(Attribute::Orderless)
+    {
+        return false;
+    }
+    for value in values {
+        if is_form(value, "Sequence") {
+            return false;
+        }
+    }
+    true
 }
 
 /// What a node of this head and these elements is shaped to, once Unevaluated is taken away, where there is one.

@@ -11,7 +11,7 @@ ghost use Rattle.wl_eval.specs.Turn as turn;
 
 use crate::ends::{Stop, Turned};
 use crate::evaluator::Evaluator;
-use crate::shaping::{is_bared, shaped};
+use crate::shaping::{is_bared, shaped, stays};
 use std::slice;
 use wl_expr::{Expr, Look};
 use wl_ports::{Ledger, Memory, Work};
@@ -115,6 +115,9 @@ impl Evaluator {
         // That the first form is within the limits is a clause of `weight`; so then is a rebuilt form.
         let _weight = first.weight();
         let changed = is_bared(attributes, values);
+        if !changed && stays(attributes, values) {
+            return self.rules_turn(attributes, first, changed, first, work);
+        }
         match shaped(self.alloc, changed, head, values, attributes) {
             Err(fault) => Err(self.fault(fault, work)),
             Ok(Shaped::Node(form)) => self.rules_turn(attributes, first, changed, &form, work),

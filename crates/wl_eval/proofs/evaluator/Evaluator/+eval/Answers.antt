@@ -30,10 +30,10 @@ use Rattle.wl_eval.proofs.Rows.{played_exit, played_bind, leads_exit, later, all
 use Rattle.wl_eval.proofs.Values.{args_honest, head_honest, built_honest, plains_trees, none_evaluated, evaluated_push, evaluated_later, unless_held, unless_given}
 use Rattle.wl_eval.proofs.Evaluating.{plays_leaf, leaf_inside, plays_too_deep, entered, plays_turns, end_closed, turns_depth, value_played, turns_stop, turns_final, turns_leaf, turns_next}
 use Rattle.wl_eval.proofs.Turning.{marked_sound, turns_limit}
-use Rattle.wl_eval.proofs.Tables.{row_algebra, row_lists, row_special, row_none, none_mapped}
+use Rattle.wl_eval.proofs.Tables.{row_algebra, row_lists, row_special, row_none, row_otherwise, none_mapped}
 use Rattle.wl_eval.proofs.Notices.{algebra_notices, lists_notices}
 use Rattle.wl_eval.proofs.Answering.{algebra_answers, lists_answers, algebra_honest, lists_honest}
-use Rattle.wl_eval.proofs.Shapes.{HonestShaped, shaped_honest, shape_stops, shape_is, threaded_plays, uneven_plays}
+use Rattle.wl_eval.proofs.Shapes.{stays_plays, HonestShaped, shaped_honest, shape_stops, shape_is, threaded_plays, uneven_plays}
 use Rattle.wl_eval.proofs.Rounds.{no_symbol, no_node, node_makes, node_is, or_found, or_next, or_plays, no_rules, head_values-is, tried_at, up_named, up_unnamed, up_over, up_values-held, up_values-tried, built_in-node, built_in-none, plays_no_built_in, evaluated-held, evaluated-each, evaluated-value, evaluated-kept, evaluated-over, trees_push, turned_played, final_is, final_honest, turn_symbol, leaf_turn, symbol_back, node_turned}
 use Rattle.wl_eval.proofs.evaluator.Evaluator.+eval.Goals as goal
 
@@ -294,6 +294,11 @@ node_turn-returns-clause-played g t c =
 
 -- ---- rows
 
+pub row-returns-then-not-begins_capital-clause-played : goal.row-returns-then-not-begins_capital-clause-played
+row-returns-then-not-begins_capital-clause-played g t c =
+    let n = sym c.begins_capital.ensures ∙ c.if-not-begins_capital.true in
+    (subst (λ p. Plays (sized_row p) c.args.self.now (Ok None) c.args.self.now false) (sym (row_otherwise c.args.name.now (trees c.args.args.now) n)) (plays_bind (done None) _ plays_done plays_done), tt)
+
 pub row-answered-requires : goal.row-answered-requires
 row-answered-requires g t c = record { honest = algebra_honest c.args.self.now c.args.args.now c.requires.1.1.1.1 c.apply-answer.result c.apply-answer.ensures.passed }
 
@@ -350,7 +355,18 @@ rules_turn-returns-clause-played g t c =
 -- ---- the shape of a node
 
 pub shaped_turn-rules_turn-requires : goal.shaped_turn-rules_turn-requires
-shaped_turn-rules_turn-requires g t c κs within =
+shaped_turn-rules_turn-requires g t c κs within = (search rules, (within, (c.requires.sound, (c.requires.honest, c.requires.honest))))
+
+pub shaped_turn-returns-then-stays-clause-played : goal.shaped_turn-returns-then-stays-clause-played
+shaped_turn-returns-then-stays-clause-played g t c =
+    let a = c.args.attributes in
+    let vs = trees c.args.values.now in
+    let r = c.rules_turn in
+    let n = sym c.is_bared-changed.ensures ∙ c.if-not-changed.true in
+    stays_plays a (plain c.args.head.now) vs (plain c.args.first.now) _ c.args.self.now r.result r.new.self n c.requires.first (c.stays.ensures c.if-stays.true (plain c.args.head.now)) c.is_bared-changed.ensures r.ensures.played
+
+pub shaped_turn-rules_turn-requires-in-Ok-Node : goal.shaped_turn-rules_turn-requires-in-Ok-Node
+shaped_turn-rules_turn-requires-in-Ok-Node g t c κs within =
     let k = c.args.self.now in
     let h = shaped_honest k c.args.head.now c.args.values.now c.in-Ok-Node.field-0 c.requires.head c.requires.values c.in-Ok-Node.ensures.passed in
     (search rules, (within, (c.requires.sound, (c.requires.honest, subst (HonestShaped k) c.in-Ok-Node.field-0-is h))))
