@@ -1,6 +1,8 @@
 -- The steps of a walk, by what its first goal is.
 use Rattle.std.proofs.Common.{◌≡◌, ◌≢◌, ◌-◌, ◌<◌, ◌≤◌, ◌+◌, ◌&&◌, ℕ, Bool, true, false, List, [], ◌∷◌, ◌++◌, length, take, drop, get_or, Option, Some, None, refl, ap, sym, subst, ◌∙◌, arith, append_assoc}
 use Rattle.std.specs.Option.{option_map}
+use Rattle.std.proofs.lemmas.List.Elements.{All-cons, All-head, All-nil, All-tail}
+use Rattle.wl_match.specs.Serves.{GoalFits}
 use Rattle.std.proofs.lemmas.List.{append-nil, take_all}
 use Rattle.std.specs.Prelude.{Vec}
 use Rattle.std.specs.Global.{Global}
@@ -48,6 +50,7 @@ puts_two a b c g h p q = record {
   trail = λ ss t. q.trail ss t ∙ p.trail ss t;
   rest_is = λ ss t. q.rest_is ss t ∙ p.rest_is ss t;
   marks = q.marks ∙ p.marks;
+  fits = λ ss t k f. q.fits ss t (All-cons (GoalFits ss t) h [] (All-head (GoalFits ss t) h (g ∷ []) k) (All-nil (GoalFits ss t))) (p.fits ss t (All-tail (GoalFits ss t) h (g ∷ []) k) f);
 }
 
 -- goals were put

@@ -1,7 +1,9 @@
 -- Lists of goals that share what follows.
-use Rattle.std.proofs.Common.{◌≡◌, ◌≢◌, ◌<◌, ◌≤◌, ◌-◌, ℕ, zero, suc, min, List, [], ◌∷◌, ◌++◌, length, get_or, refl, ap, sym, ◌∙◌, arith, length-append, inl, inr}
+use Rattle.std.proofs.Common.{◌≡◌, ◌≢◌, ◌<◌, ◌≤◌, ◌-◌, ℕ, zero, suc, min, List, [], ◌∷◌, ◌++◌, length, get_or, refl, ap, sym, subst, ◌∙◌, arith, length-append, inl, inr}
 use Rattle.std.proofs.Math.ListN.{get_or-append}
 use Rattle.std.proofs.Math.Seq.{get_or-append_seam}
+use Rattle.std.specs.List.{All}
+use Rattle.std.proofs.lemmas.List.Elements.{All-get_or}
 use Rattle.std.proofs.lemmas.Bool.{cases_lt}
 use Rattle.wl_match.specs.declared.taken.Goal.{Goal}
 use Rattle.wl_match.specs.declared.stack.Cell.{Cell}
@@ -59,6 +61,16 @@ first_of cs n (suc k) c e h g =
     default_apart [] k c d h = absurd (omega arith)
     default_apart (x ∷ cs) zero c d h = refl
     default_apart (x ∷ cs) (suc k) c d h = default_apart cs k c d (omega arith)
+
+linked : (P : Goal → Type 0) (m : ℕ) (a : List Goal) (b g : Goal) (bs gs : List Goal) → link m a (b ∷ bs) ≡ g ∷ gs → (a ≡ g ∷ gs → P g) → P b → P g
+linked P zero a b g bs gs e f h = f e
+linked P (suc m) a b g bs gs e f h = let own : b ≡ g = cc in subst P own h
+
+-- the first goal is that of a cell
+pub in_chain : (P : Goal → Type 0) (cs : List Cell) (k n : ℕ) (g : Goal) (gs : List Goal) → k ≤ length cs → All (λ c. P c.goal) cs → chain cs k n ≡ g ∷ gs → P g
+in_chain P cs zero n g gs l h e = cc
+in_chain P cs (suc k) n g gs l h e =
+    linked P (n - k) (chain cs k n) (cell_at cs k).goal g (chain cs k (cell_at cs k).next) gs e (λ x. in_chain P cs k n g gs (omega arith) h x) (All-get_or (λ c. P c.goal) cs k no_cell (omega arith) h)
 
 pub none_first : (cs : List Cell) (n m : ℕ) → m ≡ min n (length cs) → m ≡ 0 → goals_at cs n ≡ []
 none_first cs n m e z = clamped cs (length cs) n ∙ ap (λ w. chain cs w w) (sym e ∙ z)

@@ -1,3 +1,6 @@
+pub mod Fitting
+pub mod Keeping
+pub mod Views
 pub mod Grafts
 pub mod FormsLemmas
 pub mod HeadsLemmas

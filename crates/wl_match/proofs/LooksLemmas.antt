@@ -17,8 +17,7 @@ use Rattle.wl_match.specs.Runs.{keeps, kept_at, or_tree, part_at}
 use Rattle.wl_match.specs.Means.{IsPart, from_child, site_at, HasSpan}
 use Rattle.wl_match.specs.Trials.{Site, beyond, least, most_under, mosts, need_present, needs, within}
 use Rattle.wl_match.proofs.LentLemmas.{same_turned}
-use Rattle.wl_match.proofs.PartsLemmas.{pat_is}
-use Rattle.wl_match.proofs.PatternLemmas.{no_pat}
+use Rattle.wl_match.proofs.PartsLemmas.{no_pat, pat_is}
 
 -- a part names what stands before it
 pub inner_below : (ss : List Part) (i q : ℕ) (s x : Part) → IsPart ss i s → s ≡ x → inside x ≡ q ∷ [] → q < i

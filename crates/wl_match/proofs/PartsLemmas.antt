@@ -1,6 +1,7 @@
 -- The patterns of a list of parts, as parts are put behind it.
-use Rattle.std.proofs.Common.{◌≡◌, ℕ, zero, suc, ◌+◌, ◌-◌, ◌<◌, ◌≤◌, List, [], ◌∷◌, ◌++◌, length, get_or, take, refl, sym, ap, subst, ◌∙◌, false, add-one, append_assoc, length-append, arith}
-use Rattle.std.proofs.lemmas.List.{append-nil}
+use Rattle.std.proofs.Common.{◌≡◌, ℕ, zero, suc, ◌+◌, ◌-◌, ◌<◌, ◌≤◌, List, [], ◌∷◌, ◌++◌, length, get_or, take, refl, sym, ap, subst, ◌∙◌, Bool, true, false, not, cond, ◌||◌, pos, inl, inr, add-one, append_assoc, length-append, arith}
+use Rattle.std.proofs.lemmas.List.{append-nil, get_or_past}
+use Rattle.std.proofs.lemmas.Bool.{cases_lt, cases_eq}
 use Rattle.std.proofs.Math.ListN.{get_or-append}
 use Rattle.std.proofs.Math.Seq.{get_or-append_seam}
 use Rattle.std.proofs.lemmas.List.Elements.{All-nil, All-cons, All-head, All-tail, All-append}
@@ -10,14 +11,18 @@ use Rattle.wl_expr.specs.Stamped.{Stamped, plain, plains, from_list}
 use Rattle.wl_match.specs.declared.flags.Flags.{Flags}
 use Rattle.wl_match.specs.declared.part.Part.{Part}
 use Rattle.wl_match.specs.Heads.{head_symbol, heads, heads_in, heads_above}
-use Rattle.wl_expr.specs.Tree.{Tree, num, text, symbol, node}
+use Rattle.wl_exact.specs.Fraction.{of_int}
+use Rattle.wl_expr.specs.Same.{same, same_decides}
+use Rattle.wl_expr.specs.Stamped.{num as stamped_num}
+use Rattle.wl_expr.specs.Tree.{Tree, Trees, num, text, symbol, node, none, more}
 use Rattle.wl_expr.specs.Words.{is_node}
 use Rattle.wl_match.specs.declared.part.Part.TheVariants.{Exactly}
 use Rattle.wl_match.specs.declared.part.Part.TheVariants as part
-use Rattle.std.specs.Prelude.{string_bytes, option_map, Some, None}
-use Rattle.wl_match.specs.Pattern.{Pat, Pats, exactly, named, tested, applies, holds, hold, optional, alternatives, repeated, except, nodes, end, also, read_node}
+use Rattle.std.specs.Prelude.{codes, string_bytes, option_map, Some, None}
+use Rattle.std.specs.Str.{bytes_eq}
+use Rattle.wl_match.specs.Pattern.{Count, one, some, any, Ask, Pat, Pats, exactly, named, tested, applies, holds, hold, optional, alternatives, repeated, except, nodes, end, also, read_blank, read_named, read_tested, read_one, read_optional, read_verbatim, read_except, read_special, read_node}
 use Rattle.wl_match.specs.Placed.{flags_at, placed, placed_in}
-use Rattle.wl_match.specs.Parts.{nothing, at, count_of, table, pat, pat_of, pats_of, inside, IsBehind, kept, kept_by, Builds, BuildsAll, Puts}
+use Rattle.wl_match.specs.Parts.{has_own_head, HaveOwnHeads, nothing, at, count_of, table, pat, pat_of, pats_of, inside, IsBehind, kept, kept_by, Builds, BuildsAll, Puts}
 use Rattle.wl_match.proofs.HeadsLemmas.{count_more, length_heads}
 
 pub table_put : (ps : List Pat) (ss : List Part) (s : Part) → table ps (ss ++ s ∷ []) ≡ table ps ss ++ pat_of (at (table ps ss)) s ∷ []
@@ -45,6 +50,135 @@ pat_put ss s =
 
 pub put_is : (ss : List Part) (s : Part) (i : ℕ) (new : List Part) → Puts s ss i new → pat new i ≡ pat_of (pat ss) s
 put_is ss s i new p = (λ n. pat (p.is n) (p.at_end n)) ∙ pat_put ss s
+
+pub no_pat : (ss : List Part) (i : ℕ) → length ss ≤ i → pat ss i ≡ nothing
+unfolding pat
+no_pat ss i h = get_or_past (table [] ss) i nothing (omega (arith, length_table [] ss))
+
+-- ---- heads that match themselves alone
+
+own_put : (old new : List Part) (s : Part) (i : ℕ) → Puts s old i new → has_own_head (pat_of (pat old) s) ≡ true → HaveOwnHeads old → HaveOwnHeads new
+own_put old new s i p o h j = elim (cases_lt j (length old)) [
+  | inl less ↦ ap has_own_head (ap (λ ss. pat ss j) p.is ∙ pat_kept old s j less) ∙ h j
+  | inr past ↦ elim (cases_eq j (length old)) [
+    | inl e ↦ ap has_own_head ((λ v. pat (p.is v) (e v)) ∙ pat_put old s) ∙ o
+    | inr e ↦ ap has_own_head (no_pat new j (omega (arith, ap length p.is, length-append old (s ∷ [])))) ∙ refl
+  ]
+]
+
+own_cond : (b : Bool) (p q : Pat) → has_own_head p ≡ true → has_own_head q ≡ true → has_own_head (cond b p q) ≡ true
+own_cond true p q h k = h
+own_cond false p q h k = k
+
+own_blank : (c : Count) (ts : Trees) (p : Pat) → has_own_head p ≡ true → has_own_head (read_blank c ts p) ≡ true
+own_blank c none p h = refl
+own_blank c (more t none) p h = refl
+own_blank c (more t (more u ts)) p h = h
+
+own_named : (ts : Trees) (ps : Pats) (p : Pat) → has_own_head p ≡ true → has_own_head (read_named ts ps p) ≡ true
+own_named (more (symbol x) (more t none)) (also a (also q end)) p h = refl
+own_named none ps p h = h
+own_named (more (num n) ts) ps p h = h
+own_named (more (text n) ts) ps p h = h
+own_named (more (node g us) ts) ps p h = h
+own_named (more (symbol x) none) ps p h = h
+own_named (more (symbol x) (more t (more u ts))) ps p h = h
+own_named (more (symbol x) (more t none)) end p h = h
+own_named (more (symbol x) (more t none)) (also a end) p h = h
+own_named (more (symbol x) (more t none)) (also a (also q (also r ps))) p h = h
+
+own_tested : (f : Tree → Ask) (ts : Trees) (ps : Pats) (p : Pat) → has_own_head p ≡ true → has_own_head (read_tested f ts ps p) ≡ true
+own_tested f (more t (more c none)) (also q (also b end)) p h = refl
+own_tested f none ps p h = h
+own_tested f (more t none) ps p h = h
+own_tested f (more t (more c (more d ts))) ps p h = h
+own_tested f (more t (more c none)) end p h = h
+own_tested f (more t (more c none)) (also q end) p h = h
+own_tested f (more t (more c none)) (also q (also b (also r ps))) p h = h
+
+own_one : (f : Pat → Pat) (ps : Pats) (p : Pat) → ((q : Pat) → has_own_head (f q) ≡ true) → has_own_head p ≡ true → has_own_head (read_one f ps p) ≡ true
+own_one f (also q end) p o h = o q
+own_one f end p o h = h
+own_one f (also q (also r ps)) p o h = h
+
+own_optional : (ts : Trees) (ps : Pats) (p : Pat) → has_own_head p ≡ true → has_own_head (read_optional ts ps p) ≡ true
+own_optional (more t none) (also q end) p h = refl
+own_optional (more t (more d none)) (also q (also b end)) p h = refl
+own_optional none ps p h = h
+own_optional (more t none) end p h = h
+own_optional (more t none) (also q (also r ps)) p h = h
+own_optional (more t (more d (more e ts))) ps p h = h
+own_optional (more t (more d none)) end p h = h
+own_optional (more t (more d none)) (also q end) p h = h
+own_optional (more t (more d none)) (also q (also b (also r ps))) p h = h
+
+own_verbatim : (ts : Trees) (p : Pat) → has_own_head p ≡ true → has_own_head (read_verbatim ts p) ≡ true
+own_verbatim (more t none) p h = refl
+own_verbatim none p h = h
+own_verbatim (more t (more u ts)) p h = h
+
+own_except : (ts : Trees) (ps : Pats) (p : Pat) → has_own_head p ≡ true → has_own_head (read_except ts ps p) ≡ true
+own_except (more c none) (also a end) p h = refl
+own_except (more c (more t none)) (also a (also q end)) p h = refl
+own_except none ps p h = h
+own_except (more c none) end p h = h
+own_except (more c none) (also a (also r ps)) p h = h
+own_except (more c (more t (more u ts))) ps p h = h
+own_except (more c (more t none)) end p h = h
+own_except (more c (more t none)) (also a end) p h = h
+own_except (more c (more t none)) (also a (also q (also r ps))) p h = h
+
+own_special : (s : List ℕ) (ts : Trees) (ps : Pats) (p : Pat) → has_own_head p ≡ true → has_own_head (read_special s ts ps p) ≡ true
+own_special s ts ps p h =
+    let p0 : Pat = cond (bytes_eq s (codes "Except")) (read_except ts ps p) p in
+    let h0 : has_own_head p0 ≡ true = own_cond (bytes_eq s (codes "Except")) (read_except ts ps p) p (own_except ts ps p h) h in
+    let p1 : Pat = cond (bytes_eq s (codes "Verbatim")) (read_verbatim ts p) p0 in
+    let h1 : has_own_head p1 ≡ true = own_cond (bytes_eq s (codes "Verbatim")) (read_verbatim ts p) p0 (own_verbatim ts p h) h0 in
+    let p2 : Pat = cond (bytes_eq s (codes "RepeatedNull")) (read_one (repeated any) ps p) p1 in
+    let h2 : has_own_head p2 ≡ true = own_cond (bytes_eq s (codes "RepeatedNull")) (read_one (repeated any) ps p) p1 (own_one (repeated any) ps p (λ q. refl) h) h1 in
+    let p3 : Pat = cond (bytes_eq s (codes "Repeated")) (read_one (repeated some) ps p) p2 in
+    let h3 : has_own_head p3 ≡ true = own_cond (bytes_eq s (codes "Repeated")) (read_one (repeated some) ps p) p2 (own_one (repeated some) ps p (λ q. refl) h) h2 in
+    let p4 : Pat = cond (bytes_eq s (codes "Alternatives")) (alternatives ps) p3 in
+    let h4 : has_own_head p4 ≡ true = own_cond (bytes_eq s (codes "Alternatives")) (alternatives ps) p3 (refl) h3 in
+    let p5 : Pat = cond (bytes_eq s (codes "Optional")) (read_optional ts ps p) p4 in
+    let h5 : has_own_head p5 ≡ true = own_cond (bytes_eq s (codes "Optional")) (read_optional ts ps p) p4 (own_optional ts ps p h) h4 in
+    let p6 : Pat = cond (bytes_eq s (codes "HoldPattern")) (read_one hold ps p) p5 in
+    let h6 : has_own_head p6 ≡ true = own_cond (bytes_eq s (codes "HoldPattern")) (read_one hold ps p) p5 (own_one hold ps p (λ q. refl) h) h5 in
+    let p7 : Pat = cond (bytes_eq s (codes "Condition")) (read_tested holds ts ps p) p6 in
+    let h7 : has_own_head p7 ≡ true = own_cond (bytes_eq s (codes "Condition")) (read_tested holds ts ps p) p6 (own_tested holds ts ps p h) h6 in
+    let p8 : Pat = cond (bytes_eq s (codes "PatternTest")) (read_tested applies ts ps p) p7 in
+    let h8 : has_own_head p8 ≡ true = own_cond (bytes_eq s (codes "PatternTest")) (read_tested applies ts ps p) p7 (own_tested applies ts ps p h) h7 in
+    let p9 : Pat = cond (bytes_eq s (codes "Pattern")) (read_named ts ps p) p8 in
+    let h9 : has_own_head p9 ≡ true = own_cond (bytes_eq s (codes "Pattern")) (read_named ts ps p) p8 (own_named ts ps p h) h8 in
+    let p10 : Pat = cond (bytes_eq s (codes "BlankNullSequence")) (read_blank any ts p) p9 in
+    let h10 : has_own_head p10 ≡ true = own_cond (bytes_eq s (codes "BlankNullSequence")) (read_blank any ts p) p9 (own_blank any ts p h) h9 in
+    let p11 : Pat = cond (bytes_eq s (codes "BlankSequence")) (read_blank some ts p) p10 in
+    let h11 : has_own_head p11 ≡ true = own_cond (bytes_eq s (codes "BlankSequence")) (read_blank some ts p) p10 (own_blank some ts p h) h10 in
+    own_cond (bytes_eq s (codes "Blank")) (read_blank one ts p) p11 (own_blank one ts p h) h11
+
+or_true : (b c : Bool) → c ≡ true → (b || c) ≡ true
+or_true true c e = refl
+or_true false c e = e
+
+own_placed : (fs : List Flags) (k : ℕ) (t : Tree) → has_own_head (placed fs k t) ≡ true
+own_placed fs k (num n) = refl
+own_placed fs k (text s) = refl
+own_placed fs k (symbol s) = refl
+own_placed fs k (node (num n) ts) = refl
+own_placed fs k (node (text s) ts) = refl
+own_placed fs k (node (node g us) ts) = refl
+own_placed fs k (node (symbol s) ts) =
+    let ps = placed_in fs (k + length (heads_above (symbol s))) ts in
+    own_special s ts ps (nodes (flags_at fs k) (symbol s) (exactly (symbol s)) ps) (or_true (not (flags_at fs k).flat) (same (symbol s) (symbol s)) ((same_decides (symbol s) (symbol s)).1 refl))
+
+pub own_defaults : (old : List Part) → old ≡ Exactly (stamped_num (of_int (pos 0))) ∷ Exactly (stamped_num (of_int (pos 1))) ∷ [] → HaveOwnHeads old
+unfolding pat
+own_defaults old e = subst HaveOwnHeads (sym e) of
+  where
+    of : HaveOwnHeads (Exactly (stamped_num (of_int (pos 0))) ∷ Exactly (stamped_num (of_int (pos 1))) ∷ [])
+    of zero = refl
+    of (suc zero) = refl
+    of (suc (suc i)) = refl
 
 pub put_length : (ss : List Part) (s : Part) (new : List Part) → new ≡ ss ++ s ∷ [] → length new ≡ length ss + 1
 put_length ss s new e = ap length e ∙ length-append ss (s ∷ [])
@@ -116,6 +250,7 @@ with_more fs k ts i t old mid new is j n m l e a b = record {
   next_is = let g = a.next_is in let h = b.next_is in omega (arith, count_more ts i t l e);
   passed = λ ms o p. let q = all_taken ms ts i t l e p in b.passed ms (a.passed ms o q.0) q.1;
   behind = λ h. b.behind (a.behind h);
+  heads = λ h. b.heads (a.heads h);
 }
 
 -- one tree more
@@ -132,6 +267,7 @@ builds_leaf fs k t u old new i n e p = record {
   next_is = let a = ap length (leaf_heads (plain t) n) in omega arith;
   passed = λ ms o f. subst (All (IsFrom ms)) (sym (ap kept p.is ∙ kept_put old (Exactly u))) (All-append (IsFrom ms) (kept old) (u ∷ []) o (All-cons (IsFrom ms) u [] (subst (IsFrom ms) (sym e) f) (All-nil (IsFrom ms))));
   behind = λ h. behind_with old new (Exactly u) i p h (All-nil (λ j. j < length old));
+  heads = λ h. own_put old new (Exactly u) i p refl h;
 }
   where
     leaf_placed : (t : Tree) → is_node t ≡ false → exactly t ≡ placed fs k t
@@ -158,20 +294,24 @@ builds_node fs k t h ts own s old mid next new is i j a n m e from o w b c q r g
   last = let v = p.at_end in omega (arith, put_length next s new p.is);
   grows = let v = b.grows in let u = c.grows in omega (arith, put_length next s new p.is);
   keeps = λ v l. ap (λ ss. pat ss v) p.is ∙ pat_kept next s v (let x = b.grows in let y = c.grows in omega arith) ∙ c.keeps v (let x = b.grows in omega arith) ∙ b.keeps v l;
-  is =
-      put_is next s j new p ∙ q (pat next)
-      ∙ (λ v. read_node (λ _. o v) (plain h) (plains (from_list ts)) ((c.keeps i (let x = b.last in omega arith) ∙ b.is) v) (c.are v))
-      ∙ (λ v. read_node (λ _. flags_at fs k) (plain h) (plains (from_list ts)) (placed fs (w v) (plain h)) (placed_in fs (n_is v) (plains (from_list ts))))
-      ∙ ap (placed fs k) e;
+  is = put_is next s j new p ∙ reads;
   next_is = let x = c.next_is in omega (arith, n_is, length_heads (plain h) (plains (from_list ts)), ap (λ z. length (heads z)) e);
   passed = λ ms x f.
       let z = from ms f in
       subst (All (IsFrom ms)) (sym (ap kept p.is ∙ kept_put next s)) (All-append (IsFrom ms) (kept next) (kept_by s) (c.passed ms (b.passed ms x z.0) z.1) (r ms z.0 z.1));
   behind = λ h. behind_with next new s j p (c.behind (b.behind h)) (g (length next) (let x = b.last in let y = c.grows in omega arith) c.below);
+  heads = λ h. own_put next new s j p (ap has_own_head reads ∙ own_placed fs k (plain t)) (c.heads (b.heads h));
 }
   where
     n_is : n ≡ k + length (heads_above (plain h))
     n_is = let x = b.next_is in omega (arith, length-append (head_symbol (plain h)) (heads (plain h)))
+
+    reads : pat_of (pat next) s ≡ placed fs k (plain t)
+    reads =
+        q (pat next)
+        ∙ (λ v. read_node (λ _. o v) (plain h) (plains (from_list ts)) ((c.keeps i (let x = b.last in omega arith) ∙ b.is) v) (c.are v))
+        ∙ (λ v. read_node (λ _. flags_at fs k) (plain h) (plains (from_list ts)) (placed fs (w v) (plain h)) (placed_in fs (n_is v) (plains (from_list ts))))
+        ∙ ap (placed fs k) e
 
 -- the last part is the pattern
 pub root_is : (fs : List Flags) (k : ℕ) (t : Stamped) (old : List Part) (i n : ℕ) (new : List Part) → Builds fs k t old i n new → pat new (length new - 1) ≡ placed fs k (plain t)

@@ -10,18 +10,14 @@ use Rattle.wl_exact.specs.Fraction.{of_int}
 use Rattle.wl_match.specs.declared.part.Part.{Part}
 use Rattle.wl_match.specs.declared.part.Part.TheVariants as part
 use Rattle.wl_match.specs.declared.size.Size.{Size}
-use Rattle.wl_match.specs.Parts.{inside, table, nothing, pat, pat_of, kept, IsBehind, HasDefaults}
+use Rattle.wl_match.specs.Parts.{HaveOwnHeads, inside, table, nothing, pat, pat_of, kept, IsBehind, HasDefaults}
 use Rattle.wl_match.specs.Sizes.{size, sizes_of}
 use Rattle.wl_match.specs.Means.{IsPart, NoPart}
-use Rattle.wl_match.proofs.PartsLemmas.{pat_is, length_table}
+use Rattle.wl_match.proofs.PartsLemmas.{pat_is, length_table, no_pat}
 use Rattle.wl_match.proofs.SizesLemmas.{behind_at}
 
-pub part_is : (xs ss : List Part) (i : ℕ) (s : Part) → xs ≡ ss → s ≡ get_or xs i s → i < length xs → IsBehind 0 ss → IsPart ss i s
-part_is xs ss i s e f h b = subst (λ zs. IsBehind 0 zs → IsPart zs i s) e (λ d. record { part = get_or_default xs i (part.Hold 0) s h ∙ sym f; is = pat_is xs i s d h ∙ ap (pat_of (pat xs)) (sym f); behind = subst (λ n. All (λ j. j < n) (inside s)) (let z : 0 + i ≡ i = omega arith in z) (behind_at 0 xs i s h f d) }) b
-
-pub no_pat : (ss : List Part) (i : ℕ) → length ss ≤ i → pat ss i ≡ nothing
-unfolding pat
-no_pat ss i h = get_or_past (table [] ss) i nothing (omega (arith, length_table [] ss))
+pub part_is : (xs ss : List Part) (i : ℕ) (s : Part) → xs ≡ ss → s ≡ get_or xs i s → i < length xs → IsBehind 0 ss → HaveOwnHeads ss → IsPart ss i s
+part_is xs ss i s e f h b o = subst (λ zs. IsBehind 0 zs → HaveOwnHeads zs → IsPart zs i s) e (λ d g. record { part = get_or_default xs i (part.Hold 0) s h ∙ sym f; is = pat_is xs i s d h ∙ ap (pat_of (pat xs)) (sym f); behind = subst (λ n. All (λ j. j < n) (inside s)) (let z : 0 + i ≡ i = omega arith in z) (behind_at 0 xs i s h f d); own = g i }) b o
 
 pub no_part : (xs ss : List Part) (i : ℕ) → xs ≡ ss → length xs ≤ i → NoPart ss i
 no_part xs ss i e h = subst (λ zs. NoPart zs i) e (let r : NoPart xs i = record { part = get_or_past xs i (part.Hold 0) h; is = no_pat xs i h } in r)

@@ -1,5 +1,5 @@
 -- The steps of a walk at a node and at its elements.
-use Rattle.std.proofs.Common.{◌≡◌, ◌≢◌, ◌<◌, ◌≤◌, ◌+◌, ◌-◌, ◌&&◌, ℕ, zero, suc, Bool, true, false, cond, List, [], ◌∷◌, ◌++◌, length, map, take, drop, get_or, Option, Some, None, refl, ap, sym, subst, ◌∙◌, arith, append_assoc}
+use Rattle.std.proofs.Common.{◌≡◌, ◌≢◌, ◌<◌, ◌≤◌, ◌+◌, ◌-◌, ◌&&◌, ℕ, zero, suc, Bool, true, false, cond, not, ◌||◌, List, [], ◌∷◌, ◌++◌, length, map, take, drop, get_or, Option, Some, None, refl, ap, sym, subst, ◌∙◌, arith, append_assoc}
 use Rattle.std.specs.Prelude.{nat_lt, Vec}
 use Rattle.std.specs.Global.{Global}
 use Rattle.std.specs.Option.{option_map}
@@ -8,7 +8,7 @@ use Rattle.std.proofs.lemmas.List.{take_all, drop_all, length-map, length-drop, 
 use Rattle.std.proofs.Math.Seq.{drop-cons}
 use Rattle.std.proofs.Math.Bool.{and-true}
 use Rattle.wl_expr.specs.Tree.{Tree, num, text, symbol, node, to_list, from_list, to_list_from_list}
-use Rattle.wl_expr.specs.Same.{same}
+use Rattle.wl_expr.specs.Same.{same, same_decides}
 use Rattle.wl_expr.specs.Words.{head_of}
 use Rattle.wl_expr.specs.Stamped.{Stamped, plain, plains, from_list as from}
 use Rattle.wl_match.specs.declared.flags.Flags.{Flags}
@@ -21,14 +21,16 @@ use Rattle.wl_match.specs.declared.taken.Goal.TheVariants.{Match, Elements, Leng
 use Rattle.wl_match.specs.declared.walk.Walk.{Walk}
 use Rattle.wl_match.specs.declared.leaf.Step.{Step}
 use Rattle.wl_match.specs.declared.leaf.Step.TheVariants.{Went, Failed}
-use Rattle.wl_match.specs.Pattern.{Pat, Pats, also, any_optional, nodes, stretchable}
-use Rattle.wl_match.specs.Search.{Trail, Fail, Search, leaf, later, either, leaves, Cont, fail, or_else, or_fail}
-use Rattle.wl_match.specs.Trials.{Took, absent, all_have, default_of, each_length, elements, name_of, pick, shaped, stretches, takes, trials}
-use Rattle.wl_match.specs.Parts.{pat, pat_of, pats_of}
-use Rattle.wl_match.specs.Runs.{child, element_at, elements_of, keeps, kept_at, part_at, or_tree, picked, root_at, run_at, tree_at}
+use Rattle.wl_match.specs.Pattern.{Pat, Pats, exactly, blank, named, tested, hold, optional, alternatives, repeated, except, nodes, also, any_optional, stretchable}
+use Rattle.wl_match.specs.Search.{Trail, Fail, Search, leaf, later, either, leaves, Cont, fail, guard, or_else, or_fail}
+use Rattle.wl_match.specs.Trials.{Site, Took, absent, all_have, default_of, each_length, elements, name_of, pick, shaped, stretches, takes, trials}
+use Rattle.wl_match.specs.Parts.{has_own_head, is_exactly, pat, pat_of, pats_of}
+use Rattle.wl_match.specs.Runs.{child, element_at, elements_of, kept_at, part_at, picked, root_at, run_at, tree_at}
 use Rattle.wl_match.specs.Means.{IsPart, children, conts, flags_at, from_child, goal_means, has_later, head_at, inside, lengths_on, name_at, picks_on, site_at, taking, tree_among}
 use Rattle.wl_match.specs.Plays.{Goes, Keeps, Plays, Puts, Turns, expanding, goals_of, noding, now, opened, opening, rest, skipping, taken_before, taken_by, trail_of}
 use Rattle.wl_match.proofs.Arms.{plays_as, plays_fail, plays_kept, plays_put, puts_two}
+use Rattle.wl_match.proofs.Fitting.{stretched_head}
+use Rattle.wl_match.proofs.LentLemmas.{same_turned}
 use Rattle.wl_match.proofs.Subjects.{follow_append, trees_of}
 
 -- ---- walks
@@ -62,19 +64,6 @@ turned ss t i next q left r xs old mid new p e p' =
       now_is = (λ v. conts ss t (b.goals v) (b.trail ss t v)) ∙ ap (λ z. trials (pat ss q) z (λ d. elements (site_at ss i) (next + 1) (from_child ss i next) (run_at ss t left) k d) (trail_of ss t old)) e;
       rest_is = b.rest_is ss t;
     }
-
-stretched_head : (t : Tree) (s : Part) (f : Tree → Bool) → ((flags_at s).flat && f (head_at s)) ≡ true → or_tree t (keeps s) ≡ head_at s
-stretched_head t (part.Nodes g h hp qs) f e = refl
-stretched_head t (part.Exactly x) f e = cc
-stretched_head t (part.Blank c h) f e = cc
-stretched_head t (part.Named x q) f e = cc
-stretched_head t (part.Applies x q) f e = cc
-stretched_head t (part.Holds x q) f e = cc
-stretched_head t (part.Hold q) f e = cc
-stretched_head t (part.Optional d q) f e = cc
-stretched_head t (part.Alternatives qs) f e = cc
-stretched_head t (part.Repeated c q) f e = cc
-stretched_head t (part.Except x q) f e = cc
 
 pub stretch_is : (ss : List Part) (t : Tree) (i q : ℕ) (b : Bool) (xs ys : List Tree) → b ≡ stretches (site_at ss i) (pat ss q) → b ≡ true → ys ≡ shaped true (kept_at ss t i) xs → ys ≡ shaped (stretches (site_at ss i) (pat ss q)) (head_at (part_at ss i)) xs
 stretch_is ss t i q b xs ys e f h = h ∙ (λ v. shaped ((sym f ∙ e) v) (stretched_head t (part_at ss i) (λ g. stretchable g (pat ss q)) (sym e ∙ f) v) xs)
@@ -335,12 +324,12 @@ alone_is ss i f h u xs ys d b s x e y q =
     let k : same (head_at (part_at ss i)) (head_of u) ≡ d = ap (λ z. same z.head (head_of u)) s ∙ sym (and-true (same h (head_of u))) ∙ sym (e ∙ ap (all_have (Some h)) y) in
     (λ v. (s v).flags.one_identity && any_optional (pats_of (pat ss) ((ap (drop 0) x ∙ no_drop xs) v)) && cond (k v) false true) ∙ sym q
 
-the_one : (xs : List Tree) → length xs ≡ 1 → (u : Tree) × (xs ≡ u ∷ [])
+pub the_one : (xs : List Tree) → length xs ≡ 1 → (u : Tree) × (xs ≡ u ∷ [])
 the_one [] l = absurd (omega arith)
 the_one (x ∷ []) l = (x, refl)
 the_one (x ∷ y ∷ xs) l = absurd (omega arith)
 
-pub node_alone : (ss : List Part) (t : Tree) (i hp n : ℕ) (f : Flags) (h : Tree) (xs : List ℕ) (ys : List Tree) (r r' : Taken) (d b : Bool) (old new : Walk) → site_at ss i ≡ record { head = h; flags = f } → inside ss i ≡ xs → d ≡ all_have (Some h) ys → ys ≡ run_at ss t r → b ≡ (f.one_identity && any_optional (pats_of (pat ss) xs) && cond d false true) → b ≡ true → n ≡ length (run_at ss t r) → n ≡ 1 → r' ≡ r → Puts old new (Elements i 0 r' ∷ []) → Plays ss t (noding ss t old i hp r) old Went new
+pub node_alone : (ss : List Part) (t : Tree) (i hp n : ℕ) (f : Flags) (h : Tree) (xs : List ℕ) (ys : List Tree) (r r' : Taken) (d b : Bool) (old new : Walk) → site_at ss i ≡ record { head = h; flags = f } → inside ss i ≡ xs → d ≡ all_have (Some h) ys → ys ≡ run_at ss t r → b ≡ (f.one_identity && any_optional (pats_of (pat ss) xs) && cond d false true) → b ≡ true → n ≡ length (run_at ss t r) → n ≡ 1 → ((us : List Part) (v w : Tree) → run_at us v r ≡ w ∷ [] → run_at us v r' ≡ w ∷ []) → Puts old new (Elements i 0 r' ∷ []) → Plays ss t (noding ss t old i hp r) old Went new
 node_alone ss t i hp n f h xs ys r r' d b old new s x e y q bt l m g p =
     let o = the_one (run_at ss t r) (sym l ∙ m) in
     let k : Cont = λ c. conts ss t (goals_of old) c in
@@ -349,7 +338,42 @@ node_alone ss t i hp n f h xs ys r r' d b old new s x e y q bt l m g p =
     plays_put ss t (noding ss t old i hp r) old new Went (Elements i 0 r' ∷ []) refl p
     (ap (λ w. trials (nodes (flags_at (part_at ss i)) (head_at (part_at ss i)) (pat ss hp) (from_child ss i 0)) w k tr) o.1
     ∙ node_trials (flags_at (part_at ss i)) (head_at (part_at ss i)) (pat ss hp) (from_child ss i 0) o.0 k tr true z
-    ∙ (λ v. later (elements (site_at ss i) 1 (from_child ss i 0) ((sym o.1 ∙ ap (run_at ss t) (sym g)) v) k tr)))
+    ∙ (λ v. later (elements (site_at ss i) 1 (from_child ss i 0) (sym (g ss t o.0 o.1) v) k tr)))
+
+unlike_exactly : (h g v : Tree) → same h v ≡ true → same h g ≡ false → same g v ≡ false
+unlike_exactly h g v e f =
+    let w : h ≡ v = (same_decides h v).0 e in
+    same_turned g v ∙ ap (λ z. same z g) (sym w) ∙ f
+
+-- another head than the one that the head's pattern is
+unlike_opened : (s : Site) (hp : Pat) (ps : Pats) (u : Tree) (k : Cont) (e : Trail) → is_exactly s.head hp ≡ true → same s.head (head_of u) ≡ false → leaves (opened s hp ps u k e) ≡ Fail ∷ []
+unlike_opened s hp ps (num n) k e h d = refl
+unlike_opened s hp ps (text x) k e h d = refl
+unlike_opened s hp ps (symbol x) k e h d = refl
+unlike_opened s (exactly v) ps (node g us) k e h d =
+    ap (λ z. leaves (later (guard (z && true) (λ c. elements s 1 ps (to_list us) k c) e))) (unlike_exactly s.head g v h d)
+unlike_opened s (blank c x) ps (node g us) k e h d = cc
+unlike_opened s (named x q) ps (node g us) k e h d = cc
+unlike_opened s (tested t q) ps (node g us) k e h d = cc
+unlike_opened s (hold q) ps (node g us) k e h d = cc
+unlike_opened s (optional x q) ps (node g us) k e h d = cc
+unlike_opened s (alternatives qs) ps (node g us) k e h d = cc
+unlike_opened s (repeated c q) ps (node g us) k e h d = cc
+unlike_opened s (except c q) ps (node g us) k e h d = cc
+unlike_opened s (nodes f x hp qs) ps (node g us) k e h d = cc
+
+pub node_unlike : (ss : List Part) (t : Tree) (i hp n : ℕ) (f : Flags) (h : Tree) (xs : List ℕ) (ys : List Tree) (r : Taken) (d b : Bool) (old : Walk) → site_at ss i ≡ record { head = h; flags = f } → inside ss i ≡ xs → pat ss i ≡ nodes f h (pat ss hp) (pats_of (pat ss) xs) → has_own_head (pat ss i) ≡ true → d ≡ all_have (Some h) ys → ys ≡ run_at ss t r → b ≡ (f.one_identity && any_optional (pats_of (pat ss) xs) && cond d false true) → b ≡ false → n ≡ length (run_at ss t r) → n ≡ 1 → f.flat ≡ true → d ≡ false → Plays ss t (noding ss t old i hp r) old Failed old
+node_unlike ss t i hp n f h xs ys r d b old s x w o e y q bf l m fl df =
+    let u = the_one (run_at ss t r) (sym l ∙ m) in
+    let k : Cont = λ c. conts ss t (goals_of old) c in
+    let tr = trail_of ss t old in
+    let z = alone_is ss i f h u.0 xs ys d b s x e (y ∙ u.1) q ∙ bf in
+    let own : is_exactly h (pat ss hp) ≡ true = (λ v. not (sym fl v) || is_exactly h (pat ss hp)) ∙ sym (ap has_own_head w) ∙ o in
+    let other : same h (head_of u.0) ≡ false = sym (and-true (same h (head_of u.0))) ∙ sym (e ∙ ap (all_have (Some h)) (y ∙ u.1)) ∙ df in
+    ap (λ c. leaves c ++ rest ss t old)
+    (ap (λ w. trials (nodes (flags_at (part_at ss i)) (head_at (part_at ss i)) (pat ss hp) (from_child ss i 0)) w k tr) u.1
+    ∙ node_trials (flags_at (part_at ss i)) (head_at (part_at ss i)) (pat ss hp) (from_child ss i 0) u.0 k tr false z)
+    ∙ ap (λ c. c ++ rest ss t old) (unlike_opened (site_at ss i) (pat ss hp) (from_child ss i 0) u.0 k tr (ap (λ v. is_exactly v.head (pat ss hp)) s ∙ own) (ap (λ v. same v.head (head_of u.0)) s ∙ other))
 
 pub node_opens : (ss : List Part) (t : Tree) (i hp n : ℕ) (f : Flags) (h : Tree) (xs : List ℕ) (ys : List Tree) (r : Taken) (d b : Bool) (old new : Walk) (step : Step) → site_at ss i ≡ record { head = h; flags = f } → inside ss i ≡ xs → d ≡ all_have (Some h) ys → ys ≡ run_at ss t r → b ≡ (f.one_identity && any_optional (pats_of (pat ss) xs) && cond d false true) → b ≡ false → n ≡ length (run_at ss t r) → n ≡ 1 → ((u : Tree) → run_at ss t r ≡ u ∷ [] → Plays ss t (opening ss t old i hp u) old step new) → Plays ss t (noding ss t old i hp r) old step new
 node_opens ss t i hp n f h xs ys r d b old new step s x e y q bf l m p =

@@ -1,5 +1,8 @@
 -- What the steps of a walk change.
-use Rattle.std.proofs.Common.{◌≡◌, ◌≤◌, ◌+◌, ℕ, true, false, List, [], ◌∷◌, ◌++◌, length, reverse, take, Some, None, Result, Ok, Err, MatchResult, refl, ap, sym, subst, ◌∙◌, arith, length-append, le_trans}
+use Rattle.std.proofs.Common.{◌≡◌, ◌≤◌, ◌+◌, ℕ, zero, suc, true, false, List, [], ◌∷◌, ◌++◌, length, reverse, take, Some, None, Result, Ok, Err, MatchResult, refl, ap, sym, subst, ◌∙◌, arith, length-append, le_trans}
+use Rattle.std.specs.List.{All}
+use Rattle.std.proofs.lemmas.Bool.{and_from, and_parts}
+use Rattle.std.proofs.lemmas.List.Elements.{All-append, All-cons, All-head, All-nil, All-take}
 use Rattle.std.proofs.lemmas.List.{take-append-le, map-append, length-take-le, take_all}
 use Rattle.wl_expr.specs.Tree.{Tree}
 use Rattle.wl_match.specs.declared.part.Part.{Part}
@@ -12,7 +15,9 @@ use Rattle.wl_match.specs.Search.{leaves}
 use Rattle.wl_match.specs.Means.{conts, entries, entry_of, after, goals_at}
 use Rattle.wl_match.specs.Plays.{IsEmpty, goals_of, trail_of, rest, Puts, Keeps, Marks, Takes, Returns}
 use Rattle.wl_match.specs.Nested.{IsNested, IsWhole}
-use Rattle.wl_match.proofs.Chains.{put_first, goals_more}
+use Rattle.wl_match.specs.Fits.{all_fit, mark_fits}
+use Rattle.wl_match.specs.Serves.{Fits, GoalFits}
+use Rattle.wl_match.proofs.Chains.{in_chain, put_first, goals_more}
 
 pub nested_more : (n m n' m' : ℕ) (cs : List Choice) → n ≤ n' → m ≤ m' → IsNested n m cs → IsNested n' m' cs
 nested_more n m n' m' [] h k r = tt
@@ -32,6 +37,43 @@ after_put ss t cells xs ms (c ∷ cs) h =
     let p = take-append-le c.cells cells xs h.1.0 in
     λ i. leaves (conts ss t (goals_at (p i) c.goals) (entries ss t (take c.marks ms))) ++ after ss t (p i) (take c.marks ms) cs
 
+-- ---- what fits
+
+all_put : (ss : List Part) (t : Tree) (ms : List Mark) (x : Mark) → all_fit ss t ms ≡ true → mark_fits ss t x ≡ true → all_fit ss t (ms ++ x ∷ []) ≡ true
+all_put ss t [] x h e = and_from (mark_fits ss t x) true e refl
+all_put ss t (m ∷ ms) x h e =
+    let k = and_parts (mark_fits ss t m) (all_fit ss t ms) h in
+    and_from (mark_fits ss t m) (all_fit ss t (ms ++ x ∷ [])) k.0 (all_put ss t ms x k.1 e)
+
+all_taken : (ss : List Part) (t : Tree) (n : ℕ) (ms : List Mark) → all_fit ss t ms ≡ true → all_fit ss t (take n ms) ≡ true
+all_taken ss t zero ms h = refl
+all_taken ss t (suc n) [] h = refl
+all_taken ss t (suc n) (m ∷ ms) h =
+    let k = and_parts (mark_fits ss t m) (all_fit ss t ms) h in
+    and_from (mark_fits ss t m) (all_fit ss t (take n ms)) k.0 (all_taken ss t n ms k.1)
+
+pub fits_same : (ss : List Part) (t : Tree) (old new : Walk) → new.stack.cells.items ≡ old.stack.cells.items → new.trail.items ≡ old.trail.items → Fits ss t old → Fits ss t new
+fits_same ss t old new e m f = record {
+  cells = subst (All (λ c. GoalFits ss t c.goal)) (sym e) f.cells;
+  trail = ap (all_fit ss t) m ∙ f.trail;
+}
+
+fits_put : (ss : List Part) (t : Tree) (old new : Walk) (c : Cell) (g : Goal) → c.goal ≡ g → new.stack.cells.items ≡ old.stack.cells.items ++ c ∷ [] → new.trail.items ≡ old.trail.items → GoalFits ss t g → Fits ss t old → Fits ss t new
+fits_put ss t old new c g a e m h f =
+    let P : Cell → Type 0 = λ d. GoalFits ss t d.goal in
+    record {
+      cells = subst (All P) (sym e) (All-append P old.stack.cells.items (c ∷ []) f.cells (All-cons P c [] (subst (GoalFits ss t) (sym a) h) (All-nil P)));
+      trail = ap (all_fit ss t) m ∙ f.trail;
+    }
+
+pub fits_cut : (ss : List Part) (t : Tree) (n m : ℕ) (old new : Walk) → new.stack.cells.items ≡ take n old.stack.cells.items → new.trail.items ≡ take m old.trail.items → Fits ss t old → Fits ss t new
+fits_cut ss t n m old new e k f =
+    let P : Cell → Type 0 = λ d. GoalFits ss t d.goal in
+    record {
+      cells = subst (All P) (sym e) (All-take P n old.stack.cells.items f.cells);
+      trail = ap (all_fit ss t) k ∙ all_taken ss t m old.trail.items f.trail;
+    }
+
 pub puts_is : (old new : Walk) (c : Cell) (g : Goal) (ch : List Choice) → c ≡ record { goal = g; next = old.goals } → new.stack.cells.items ≡ old.stack.cells.items ++ c ∷ [] → new.goals ≡ length new.stack.cells.items → new.trail.items ≡ old.trail.items → ch ≡ reverse old.choices.items → reverse new.choices.items ≡ ch → IsNested (length old.stack.cells.items) (length old.trail.items) ch → Puts old new (g ∷ [])
 unfolding goals_of trail_of rest
 puts_is old new c g ch a e n m o b h = record {
@@ -39,6 +81,7 @@ puts_is old new c g ch a e n m o b h = record {
   trail = λ ss t. ap (entries ss t) m;
   rest_is = λ ss t. (λ i. after ss t (e i) (m i) (b i)) ∙ after_put ss t old.stack.cells.items (c ∷ []) old.trail.items ch h ∙ ap (after ss t old.stack.cells.items old.trail.items) o;
   marks = m;
+  fits = λ ss t k f. fits_put ss t old new c g (ap (λ z. z.goal) a) e m (All-head (GoalFits ss t) g [] k) f;
 }
 
 take_whole : {A : Type 0} (xs : List A) (n : ℕ) → n ≡ length xs → take n xs ≡ xs
@@ -60,6 +103,7 @@ keeps_is old new c g b a e n l k s m r h =
           ∙ (λ i. leaves (conts ss t (goals_at (p i) b.goals) (entries ss t (q i))) ++ after ss t (p i) (q i) (reverse old.choices.items))
           ∙ (λ i. leaves (conts ss t (first i) (entries ss t ms)) ++ (ap (λ z. after ss t z ms (reverse old.choices.items)) e ∙ after_put ss t cells (c ∷ []) ms (reverse old.choices.items) h.1) i);
       marks = m;
+      fits = λ ss t x f. fits_put ss t old new c g (ap (λ z. z.goal) a) e m x f;
     }
 
 pub whole_put : (g n : ℕ) (cells cells' : List Cell) (ms : List Mark) (c : Cell) (cs : List Choice) → cells' ≡ cells ++ c ∷ [] → n ≡ length cells' → IsWhole g (length cells) (length ms) cs → IsWhole n (length cells') (length ms) cs
@@ -73,6 +117,10 @@ marks_is old new x e n m o h = record {
   goals = λ i. goals_at (e i) (n i);
   trail = λ ss t. ap (entries ss t) m ∙ map-append (entry_of ss t) old.trail.items (x ∷ []);
   rest_is = λ ss t. (λ i. after ss t (e i) (m i) (reverse (o i))) ∙ marked ss t old.stack.cells.items old.trail.items x (reverse old.choices.items) h;
+  fits = λ ss t k f. record {
+    cells = subst (All (λ c. GoalFits ss t c.goal)) (sym e) f.cells;
+    trail = ap (all_fit ss t) m ∙ all_put ss t old.trail.items x f.trail k;
+  };
 }
   where
     marked : (ss : List Part) (t : Tree) (cells : List Cell) (ms : List Mark) (x : Mark) (cs : List Choice) → IsNested (length cells) (length ms) cs → after ss t cells (ms ++ x ∷ []) cs ≡ after ss t cells ms cs
@@ -87,11 +135,12 @@ takes_some old new g f e m o = record {
   goals = f;
   trail = λ ss t. ap (entries ss t) m;
   rest_is = λ ss t. λ i. after ss t (e i) (m i) (reverse (o i));
+  fits = λ ss t k. (in_chain (GoalFits ss t) old.stack.cells.items (length old.stack.cells.items) old.goals g (goals_at new.stack.cells.items new.goals) (omega arith) k.cells f, fits_same ss t old new e m k);
 }
 
 pub takes_none : (old new : Walk) → goals_at old.stack.cells.items old.goals ≡ [] → new.stack.cells.items ≡ old.stack.cells.items → new.goals ≡ old.goals → new.trail.items ≡ old.trail.items → new.choices.items ≡ old.choices.items → Takes old new None
 unfolding goals_of trail_of rest
-takes_none old new f e n m o = record { goals = f; trail = λ ss t. ap (entries ss t) m; rest_is = λ ss t. λ i. after ss t (e i) (m i) (reverse (o i)) }
+takes_none old new f e n m o = record { goals = f; trail = λ ss t. ap (entries ss t) m; rest_is = λ ss t. λ i. after ss t (e i) (m i) (reverse (o i)); fits = λ ss t k. (tt, fits_same ss t old new e m k) }
 
 pub returns_some : (old new : Walk) (c : Choice) → reverse old.choices.items ≡ c ∷ reverse new.choices.items → new.stack.cells.items ≡ take c.cells old.stack.cells.items → new.trail.items ≡ take c.marks old.trail.items → new.goals ≡ c.goals → Returns old new true
 unfolding goals_of trail_of rest
@@ -128,4 +177,8 @@ empty_is w e f g = record {
   goals = ap (λ z. goals_at z w.goals) e;
   trail = λ ss t. ap (entries ss t) f;
   rest_is = λ ss t. ap (λ z. after ss t w.stack.cells.items w.trail.items (reverse z)) g;
+  fits = λ ss t. record {
+    cells = subst (All (λ c. GoalFits ss t c.goal)) (sym e) (All-nil (λ c. GoalFits ss t c.goal));
+    trail = ap (all_fit ss t) f;
+  };
 }

@@ -1,5 +1,5 @@
 -- The leaves that a search still has.
-use Rattle.std.specs.Prelude.{◌≡◌, List, [], ◌∷◌}
+use Rattle.std.specs.Prelude.{◌≡◌, List, [], ◌∷◌, ⊤}
 use Rattle.wl_expr.specs.Tree.{Tree}
 use Rattle.wl_match.specs.declared.part.Part.{Part}
 use Rattle.wl_match.specs.declared.leaf.Leaf.{Leaf as Answer}
@@ -11,6 +11,8 @@ use Rattle.wl_match.specs.Search.{Trail, Leaf, Fail, Found}
 use Rattle.wl_match.specs.Trials.{Trials}
 use Rattle.wl_match.specs.Parts.{whole}
 use Rattle.wl_match.specs.Plays.{rest, trail_of}
+use Rattle.wl_match.specs.declared.taken.Mark.{Mark}
+use Rattle.wl_match.specs.Serves.{Fits}
 
 abbrev pub left_in : List Part → Tree → State → List Leaf
 left_in ss t (Fresh a) = Trials (whole ss) t
@@ -37,3 +39,15 @@ abbrev pub Answers : List Part → Tree → Machine → Answer → Machine → T
 Answers ss t old answer.Fail new = left ss t old ≡ Fail ∷ left ss t new
 Answers ss t old answer.Candidate new = left ss t old ≡ Found (binding ss t new) ∷ left ss t new
 Answers ss t old answer.End new = (left ss t old ≡ []) × (left ss t new ≡ [])
+
+abbrev pub marks_in : State → List Mark
+marks_in (Begun w) = w.trail.items
+marks_in _ = []
+
+abbrev pub SearchesIn : List Part → Tree → State → Type 0
+SearchesIn ss t (Begun w) = Fits ss t w
+SearchesIn ss t _ = ⊤
+
+-- the search, as far as it has come, is of this pattern on this subject
+abbrev pub Searches : List Part → Tree → Machine → Type 0
+Searches ss t m = SearchesIn ss t m.state

@@ -14,3 +14,7 @@ pub mod Runs
 pub mod Nested
 pub mod Means
 pub mod Plays
+pub mod Kinds
+pub mod Fits
+pub mod Serves
+pub mod Shown

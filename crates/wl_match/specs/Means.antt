@@ -1,5 +1,5 @@
 -- What the numbers of a search mean, for the parts of a pattern and a subject.
-use Rattle.std.specs.Prelude.{◌≡◌, ℕ, zero, suc, ◌+◌, ◌-◌, ◌≤◌, ◌<◌, Bool, true, List, [], ◌∷◌, ◌++◌, take, drop, map, length, string_bytes, Option, Some, None, get_or, nat_eq, nat_lt}
+use Rattle.std.specs.Prelude.{◌≡◌, ℕ, zero, suc, ◌+◌, ◌-◌, ◌≤◌, ◌<◌, Bool, true, IsTrue, List, [], ◌∷◌, ◌++◌, take, drop, map, length, string_bytes, Option, Some, None, get_or, nat_eq, nat_lt}
 use denote.Bor.{Bor}
 use Rattle.wl_expr.specs.Tree.{Tree, symbol}
 use Rattle.wl_expr.specs.Stamped.{Stamped, plain}
@@ -19,7 +19,7 @@ use Rattle.wl_match.specs.Search.{Entry, bound, noted, Trail, Leaf, leaves, Cont
 use Rattle.wl_match.specs.Trials.{least, lengths, Site, Took, trials, members, in_turn, elements, takes, pick, shaped, stretches, absent, default_of, name_of, each_length}
 use Rattle.std.specs.List.{All}
 use Rattle.wl_match.specs.Parts as parts
-use Rattle.wl_match.specs.Parts.{nothing, pat, pat_of, pats_of}
+use Rattle.wl_match.specs.Parts.{has_own_head, nothing, pat, pat_of, pats_of}
 use Rattle.wl_match.specs.Runs.{part_at, run_at}
 
 -- the parts inside a part that has a list of them
@@ -129,6 +129,7 @@ pub record IsPart (ss : List Part) (i : ℕ) (s : Part) : Type 0 where
   pub part : part_at ss i ≡ s
   pub is : pat ss i ≡ pat_of (pat ss) s
   pub behind : All (λ j. j < i) (parts.inside s)
+  pub own : IsTrue (has_own_head (pat ss i))
 
 pub record NoPart (ss : List Part) (i : ℕ) : Type 0 where
   pub part : part_at ss i ≡ part.Hold 0

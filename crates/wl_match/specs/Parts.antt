@@ -1,8 +1,10 @@
 -- The pattern that a list of parts is. Each part names parts inside it by their places in the list, and stands behind them.
-use Rattle.std.specs.Prelude.{◌≡◌, ℕ, ◌+◌, ◌-◌, ◌<◌, ◌≤◌, List, [], ◌∷◌, ◌++◌, length, get_or, string_bytes, Option, Some, None, option_map, ⊤}
+use Rattle.std.specs.Prelude.{◌≡◌, ℕ, ◌+◌, ◌-◌, ◌<◌, ◌≤◌, Bool, true, false, not, ◌||◌, IsTrue, List, [], ◌∷◌, ◌++◌, length, get_or, string_bytes, Option, Some, None, option_map, ⊤}
 use Rattle.std.specs.List.{All}
 use Rattle.wl_expr.specs.Passed.{IsFrom}
 use Rattle.wl_expr.specs.Words.{natural}
+use Rattle.wl_expr.specs.Tree.{Tree}
+use Rattle.wl_expr.specs.Same.{same}
 use Rattle.wl_expr.specs.Stamped.{Stamped, plain, plains, from_list}
 use Rattle.wl_match.specs.declared.flags.Flags.{Flags}
 use Rattle.wl_match.specs.declared.part.Number.{Number}
@@ -64,6 +66,18 @@ whole ss = pat ss (length ss - 1)
 -- the first two parts are 0 and 1
 abbrev pub HasDefaults : List Part → Type 0
 HasDefaults ss = (pat ss 0 ≡ exactly (natural 0)) × (pat ss 1 ≡ exactly (natural 1))
+
+abbrev pub is_exactly : Tree → Pat → Bool
+is_exactly t (exactly u) = same t u
+is_exactly t _ = false
+
+-- where the elements of a node may stand as one expression, its head matches itself alone
+abbrev pub has_own_head : Pat → Bool
+has_own_head (nodes f h hp ps) = not f.flat || is_exactly h hp
+has_own_head _ = true
+
+abbrev pub HaveOwnHeads : List Part → Type 0
+HaveOwnHeads ss = (i : ℕ) → IsTrue (has_own_head (pat ss i))
 
 -- the expressions that a part keeps
 abbrev pub some_kept : Option Stamped → List Stamped
@@ -129,6 +143,7 @@ pub record Builds (fs : List Flags) (k : ℕ) (t : Stamped) (old : List Part) (i
   pub next_is : next ≡ k + length (heads (plain t))
   pub passed : (ms : List Stamped) → All (IsFrom ms) (kept old) → IsFrom ms t → All (IsFrom ms) (kept new)
   pub behind : IsBehind 0 old → IsBehind 0 new
+  pub heads : HaveOwnHeads old → HaveOwnHeads new
 
 -- parts were added for each of these trees
 pub record BuildsAll (fs : List Flags) (k : ℕ) (ts : List Stamped) (old : List Part) (is : List ℕ) (next : ℕ) (new : List Part) : Type 0 where
@@ -139,6 +154,7 @@ pub record BuildsAll (fs : List Flags) (k : ℕ) (ts : List Stamped) (old : List
   pub next_is : next ≡ k + length (heads_in (plains (from_list ts)))
   pub passed : (ms : List Stamped) → All (IsFrom ms) (kept old) → All (IsFrom ms) ts → All (IsFrom ms) (kept new)
   pub behind : IsBehind 0 old → IsBehind 0 new
+  pub heads : HaveOwnHeads old → HaveOwnHeads new
 
 -- a part was put behind the others
 pub record Puts (s : Part) (old : List Part) (i : ℕ) (new : List Part) : Type 0 where

@@ -1,5 +1,6 @@
 -- What a step of a search keeps.
-use Rattle.std.specs.Prelude.{◌≡◌, ℕ, ◌+◌, ◌<◌, Bool, true, false, List, [], ◌∷◌, ◌++◌, reverse, Option, Some, None}
+use Rattle.std.specs.Prelude.{◌≡◌, ℕ, ◌+◌, ◌<◌, Bool, true, false, IsTrue, List, [], ◌∷◌, ◌++◌, reverse, Option, Some, None, IfSome}
+use Rattle.std.specs.List.{All}
 use Rattle.wl_expr.specs.Tree.{Tree, node, to_list}
 use Rattle.wl_match.specs.declared.part.Part.{Part}
 use Rattle.wl_match.specs.declared.taken.Goal.{Goal}
@@ -17,6 +18,8 @@ use Rattle.wl_match.specs.Runs.{part_at, run_at}
 use Rattle.wl_match.specs.Trials.{Site, Took, absent, allows, default_of, elements, is_one, name_of, trials}
 use Rattle.wl_match.specs.declared.taken.Taken.{Taken}
 use Rattle.wl_match.specs.declared.taken.Goal.TheVariants.{Elements, Turn, Note}
+use Rattle.wl_match.specs.Fits.{mark_fits}
+use Rattle.wl_match.specs.Serves.{Fits, GoalFits}
 use Rattle.wl_match.specs.Means.{conts, entries, entry_of, after, from_child, goals_at, goal_means, flags_at, head_at, site_at, taking}
 
 -- what is to be done
@@ -38,6 +41,7 @@ pub record IsEmpty (w : Walk) : Type 0 where
   pub goals : goals_of w ≡ []
   pub trail : (ss : List Part) (t : Tree) → trail_of ss t w ≡ []
   pub rest_is : (ss : List Part) (t : Tree) → rest ss t w ≡ []
+  pub fits : (ss : List Part) (t : Tree) → Fits ss t w
 
 -- goals were put before the others
 pub record Puts (old new : Walk) (gs : List Goal) : Type 0 where
@@ -45,6 +49,7 @@ pub record Puts (old new : Walk) (gs : List Goal) : Type 0 where
   pub trail : (ss : List Part) (t : Tree) → trail_of ss t new ≡ trail_of ss t old
   pub rest_is : (ss : List Part) (t : Tree) → rest ss t new ≡ rest ss t old
   pub marks : new.trail.items ≡ old.trail.items
+  pub fits : (ss : List Part) (t : Tree) → All (GoalFits ss t) gs → Fits ss t old → Fits ss t new
 
 -- the goals, after this one, were kept as a choice
 pub record Keeps (old new : Walk) (g : Goal) : Type 0 where
@@ -52,11 +57,13 @@ pub record Keeps (old new : Walk) (g : Goal) : Type 0 where
   pub trail : (ss : List Part) (t : Tree) → trail_of ss t new ≡ trail_of ss t old
   pub rest_is : (ss : List Part) (t : Tree) → rest ss t new ≡ leaves (conts ss t (g ∷ goals_of old) (trail_of ss t old)) ++ rest ss t old
   pub marks : new.trail.items ≡ old.trail.items
+  pub fits : (ss : List Part) (t : Tree) → GoalFits ss t g → Fits ss t old → Fits ss t new
 
 pub record Marks (old new : Walk) (m : Mark) : Type 0 where
   pub goals : goals_of new ≡ goals_of old
   pub trail : (ss : List Part) (t : Tree) → trail_of ss t new ≡ trail_of ss t old ++ entry_of ss t m ∷ []
   pub rest_is : (ss : List Part) (t : Tree) → rest ss t new ≡ rest ss t old
+  pub fits : (ss : List Part) (t : Tree) → IsTrue (mark_fits ss t m) → Fits ss t old → Fits ss t new
 
 -- the first goal was taken
 abbrev pub firsts : Option Goal → List Goal → List Goal
@@ -67,6 +74,7 @@ pub record Takes (old new : Walk) (o : Option Goal) : Type 0 where
   pub goals : goals_of old ≡ firsts o (goals_of new)
   pub trail : (ss : List Part) (t : Tree) → trail_of ss t new ≡ trail_of ss t old
   pub rest_is : (ss : List Part) (t : Tree) → rest ss t new ≡ rest ss t old
+  pub fits : (ss : List Part) (t : Tree) → Fits ss t old → IfSome o (GoalFits ss t) × Fits ss t new
 
 -- the first choice was taken, if there was one
 abbrev pub Returns : Walk → Walk → Bool → Type 0

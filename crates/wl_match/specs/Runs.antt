@@ -71,6 +71,7 @@ abbrev pub picked : Tree → List ℕ → List Tree
 picked t is = map (element_at t) is
 
 abbrev pub run_at : List Part → Tree → Taken → List Tree
+run_at ss t taken.Nothing = []
 run_at ss t (taken.Tree p) = tree_at ss t p ∷ []
 run_at ss t (taken.Slice p from n) = take n (drop from (elements_of (tree_at ss t p)))
 run_at ss t (taken.Picked p is) = picked (tree_at ss t p) is

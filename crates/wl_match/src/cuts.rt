@@ -1,12 +1,16 @@
 //! Parts of runs.
-ghost use Rattle.std.specs.Prelude.{ℕ, ◌≡◌, ◌++◌, ◌∷◌, [], true, take, drop, map, List, IfOk};
+ghost use Rattle.std.specs.Prelude.{ℕ, ◌≡◌, ◌++◌, ◌∷◌, [], true, take, drop, map, List, IfOk, IsTrue};
 ghost use Rattle.wl_expr.specs.Tree.{Tree};
 ghost use Rattle.wl_match.specs.declared.part.Part.{Part};
 ghost use Rattle.std.specs.Prelude as list;
 ghost use Rattle.wl_expr.specs.Stamped.{plain};
-ghost use Rattle.wl_match.specs.Means.{tree_among};
+ghost use Rattle.wl_match.specs.declared.taken.Taken.TheVariants.{Slice};
+ghost use Rattle.wl_match.specs.Fits.{are_places};
+ghost use Rattle.wl_match.specs.Means.{site_at, tree_among};
+ghost use Rattle.wl_match.specs.Parts.{pat};
 ghost use Rattle.wl_match.specs.Runs.{elements_of, kept_at, picked, run_at, tree_at};
-ghost use Rattle.wl_match.specs.Trials.{shaped};
+ghost use Rattle.wl_match.specs.Serves.{ElementServes, IsPicked, Narrows, element_fits, is_bare, is_single, left_fits, stands_alone};
+ghost use Rattle.wl_match.specs.Trials.{shaped, stretches};
 
 use crate::lent::lend;
 use crate::looks::sum;
@@ -41,8 +45,9 @@ fn cut_slice(
     from: usize,
     count: usize,
 ) -> Result<Taken, Memory>
-    ensures { IfOk result (λ r. (ss : List Part) (t : Tree)
+    ensures is { IfOk result (λ r. (ss : List Part) (t : Tree)
         → run_at ss t r ≡ take count (drop from (take n (drop start (elements_of (tree_at ss t place.now)))))) }
+    ensures narrows { IfOk result (λ r. (m k : ℕ) → Narrows (Slice place.now m k) r) }
 {
     let from = from.min(n);
     let at = match start.checked_add(from) {
@@ -62,30 +67,27 @@ fn cut_places(alloc: Global, places: &Places, from: usize, count: usize) -> Resu
     Places::of(alloc, &left[..count])
 }
 
-/// No expressions.
-fn none_of(place: &Place) -> Result<Taken, Memory>
-    ensures { IfOk result (λ r. (ss : List Part) (t : Tree) → run_at ss t r ≡ []) }
+/// So many expressions of a run of one, from one on.
+fn cut_one(run: &Taken, from: usize, count: usize) -> Result<Taken, Memory>
+    ensures is { IfOk result (λ r. (ss : List Part) (t u : Tree) → run_at ss t run.now ≡ u ∷ []
+        → run_at ss t r ≡ take count (drop from (u ∷ []))) }
+    ensures narrows { IfOk result (λ r. IsTrue (is_single run.now) → Narrows run.now r) }
 {
-    Ok(Taken::Slice(place.copy()?, 0, 0))
+    if from == 0 && count != 0 {
+        return run.copy();
+    }
+    Ok(Taken::Nothing)
 }
 
 /// So many expressions of a run, from one on.
 pub(crate) fn cut(alloc: Global, run: &Taken, from: usize, count: usize) -> Result<Taken, Memory>
-    ensures { IfOk result (λ r. (ss : List Part) (t : Tree) → run_at ss t r ≡ take count (drop from (run_at ss t run.now))) }
+    ensures is { IfOk result (λ r. (ss : List Part) (t : Tree) → run_at ss t r ≡ take count (drop from (run_at ss t run.now))) }
+    ensures narrows { IfOk result (λ r. Narrows run.now r) }
 {
     match run {
-        Taken::Tree(place) => {
-            if from == 0 && count != 0 {
-                return run.copy();
-            }
-            none_of(place)
-        }
-        Taken::Wrapped(_, place, _) => {
-            if from == 0 && count != 0 {
-                return run.copy();
-            }
-            none_of(place)
-        }
+        Taken::Nothing => Ok(Taken::Nothing),
+        Taken::Tree(_) => cut_one(run, from, count),
+        Taken::Wrapped(_, _, _) => cut_one(run, from, count),
         Taken::Slice(place, start, n) => cut_slice(place, *start, *n, from, count),
         Taken::Picked(place, places) => {
             let left = cut_places(alloc, places, from, count)?;
@@ -96,8 +98,10 @@ pub(crate) fn cut(alloc: Global, run: &Taken, from: usize, count: usize) -> Resu
 
 /// These places of a run that begins at a place of its node, as places there.
 fn shifted(alloc: Global, chosen: &[u32], start: usize, n: usize) -> Result<Places, Memory>
-    ensures { IfOk result (λ p. (u : Tree) (m : ℕ) → n ≡ list.length (take m (drop start (elements_of u)))
+    ensures is { IfOk result (λ p. (u : Tree) (m : ℕ) → n ≡ list.length (take m (drop start (elements_of u)))
         → picked u p ≡ map (tree_among (take m (drop start (elements_of u)))) chosen.now) }
+    ensures places { IfOk result (λ p. (u : Tree) (m : ℕ) → n ≡ list.length (take m (drop start (elements_of u)))
+        → IsTrue (are_places u p)) }
 {
     let mut all = Places::new(alloc);
     for place in chosen {
@@ -115,7 +119,8 @@ fn shifted(alloc: Global, chosen: &[u32], start: usize, n: usize) -> Result<Plac
 
 /// The places that stand at these places.
 fn selected(alloc: Global, chosen: &[u32], places: &[u32]) -> Result<Places, Memory>
-    ensures { IfOk result (λ p. (u : Tree) → picked u p ≡ map (tree_among (picked u places.now)) chosen.now) }
+    ensures is { IfOk result (λ p. (u : Tree) → picked u p ≡ map (tree_among (picked u places.now)) chosen.now) }
+    ensures places { IfOk result (λ p. (u : Tree) → IsTrue (are_places u places.now) → IsTrue (are_places u p)) }
 {
     let mut all = Places::new(alloc);
     for at in chosen {
@@ -128,12 +133,13 @@ fn selected(alloc: Global, chosen: &[u32], places: &[u32]) -> Result<Places, Mem
 }
 
 /// The same of a run of one expression.
-fn pick_one(run: &Taken, place: &Place, chosen: &[u32]) -> Result<Taken, Memory>
-    ensures { IfOk result (λ r. (ss : List Part) (t u : Tree) → run_at ss t run.now ≡ u ∷ []
+fn pick_one(run: &Taken, chosen: &[u32]) -> Result<Taken, Memory>
+    ensures is { IfOk result (λ r. (ss : List Part) (t u : Tree) → run_at ss t run.now ≡ u ∷ []
         → run_at ss t r ≡ map (tree_among (u ∷ [])) chosen.now) }
+    ensures picked { IfOk result (λ r. (ss : List Part) (t : Tree) → IsTrue (is_single run.now) → IsPicked ss t run.now r) }
 {
     if chosen.is_empty() {
-        return none_of(place);
+        return Ok(Taken::Nothing);
     }
     if chosen.len() == 1 && chosen[0] == 0 {
         return run.copy();
@@ -149,12 +155,19 @@ pub(crate) fn pick(
     run: &Taken,
     chosen: &[u32],
 ) -> Result<Taken, Memory>
-    ensures { IfOk result (λ r. run_at pattern.now (plain subject.now) r
+    ensures is { IfOk result (λ r. run_at pattern.now (plain subject.now) r
         ≡ map (tree_among (run_at pattern.now (plain subject.now) run.now)) chosen.now) }
+    ensures picked { IfOk result (λ r. IsPicked pattern.now (plain subject.now) run.now r) }
 {
     match run {
-        Taken::Tree(place) => pick_one(run, place, chosen),
-        Taken::Wrapped(_, place, _) => pick_one(run, place, chosen),
+        Taken::Nothing => {
+            if chosen.is_empty() {
+                return Ok(Taken::Nothing);
+            }
+            Err(Memory)
+        }
+        Taken::Tree(_) => pick_one(run, chosen),
+        Taken::Wrapped(_, _, _) => pick_one(run, chosen),
         Taken::Slice(place, start, _) => {
             let all = shifted(alloc, chosen, *start, length(pattern, subject, run))?;
             Ok(Taken::Picked(place.copy()?, all))
@@ -189,8 +202,9 @@ pub(crate) fn others(
     places: &Places,
     from: usize,
 ) -> Result<Taken, Memory>
-    ensures { IfOk result (λ r. run_at pattern.now (plain subject.now) r
+    ensures is { IfOk result (λ r. run_at pattern.now (plain subject.now) r
         ≡ map (tree_among (run_at pattern.now (plain subject.now) run.now)) places.now ++ drop from (run_at pattern.now (plain subject.now) run.now)) }
+    ensures picked { IfOk result (λ r. IsPicked pattern.now (plain subject.now) run.now r) }
 {
     let all = with_others(places, from, length(pattern, subject, run))?;
     let taken = pick(alloc, pattern, subject, run, all.as_slice())?;
@@ -199,8 +213,10 @@ pub(crate) fn others(
 
 /// The places of the elements of a run in its node.
 fn places_of(alloc: Global, start: usize, n: usize) -> Result<Places, Memory>
-    ensures { IfOk result (λ p. (u : Tree) (m : ℕ) → n ≡ list.length (take m (drop start (elements_of u)))
+    ensures is { IfOk result (λ p. (u : Tree) (m : ℕ) → n ≡ list.length (take m (drop start (elements_of u)))
         → picked u p ≡ take m (drop start (elements_of u))) }
+    ensures places { IfOk result (λ p. (u : Tree) (m : ℕ) → n ≡ list.length (take m (drop start (elements_of u)))
+        → IsTrue (are_places u p)) }
 {
     let mut all = Places::new(alloc);
     for at in 0..n {
@@ -217,14 +233,17 @@ pub(crate) fn wrapped(
     part: usize,
     run: &Taken,
 ) -> Result<Taken, Memory>
-    ensures { IfOk result (λ r. run_at pattern.now (plain subject.now) r
+    ensures is { IfOk result (λ r. run_at pattern.now (plain subject.now) r
         ≡ shaped true (kept_at pattern.now (plain subject.now) part) (run_at pattern.now (plain subject.now) run.now)) }
+    ensures serves { IfOk result (λ r. (q : ℕ) → IsTrue (stretches (site_at pattern.now part) (pat pattern.now q))
+        → IsTrue (element_fits pattern.now (plain subject.now) part run.now) → ElementServes pattern.now (plain subject.now) part q r) }
 {
     let n = length(pattern, subject, run);
     if n < 2 {
         return run.copy();
     }
     match run {
+        Taken::Nothing => run.copy(),
         Taken::Tree(_) => run.copy(),
         Taken::Wrapped(_, _, _) => run.copy(),
         Taken::Slice(place, start, _) => {
@@ -232,5 +251,30 @@ pub(crate) fn wrapped(
             Ok(Taken::Wrapped(part, place.copy()?, places))
         }
         Taken::Picked(place, places) => { Ok(Taken::Wrapped(part, place.copy()?, places.copy()?)) }
+    }
+}
+
+/// A run of one as the expression at a place, where it stands at one.
+pub(crate) fn alone(run: &Taken) -> Result<Taken, Memory>
+    ensures is { IfOk result (λ r. (ss : List Part) (t u : Tree) → run_at ss t run.now ≡ u ∷ [] → run_at ss t r ≡ u ∷ []) }
+    ensures fits { IfOk result (λ r. (ss : List Part) (t : Tree) (i : ℕ) → IsTrue (is_bare run.now) → IsTrue (stands_alone ss i)
+        → IsTrue (left_fits ss t i r)) }
+{
+    match run {
+        Taken::Nothing => Ok(Taken::Nothing),
+        Taken::Tree(_) => run.copy(),
+        Taken::Wrapped(_, _, _) => run.copy(),
+        Taken::Slice(place, from, _) => {
+            let step = short(sum(*from, 1)?)?;
+            Ok(Taken::Tree(place.below(step)?))
+        }
+        Taken::Picked(place, places) => {
+            let places = places.as_slice();
+            if places.len() == 0 {
+                return Ok(Taken::Nothing);
+            }
+            let step = short(sum(places[0] as usize, 1)?)?;
+            Ok(Taken::Tree(place.below(step)?))
+        }
     }
 }

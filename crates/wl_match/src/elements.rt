@@ -1,10 +1,12 @@
 //! The steps of a search at the elements of a node.
-ghost use Rattle.std.specs.Prelude.{◌≡◌, IfOk, Some};
+ghost use Rattle.std.specs.Prelude.{◌≡◌, IfOk, IsTrue, Some};
 ghost use Rattle.wl_expr.specs.Stamped.{plain};
-ghost use Rattle.wl_match.specs.Means.{IsChild, flags_at, has_later, head_at, site_at};
+ghost use Rattle.wl_match.specs.Means.{IsChild, flags_at, from_child, has_later, head_at, site_at};
 ghost use Rattle.wl_match.specs.Parts.{pat};
+ghost use Rattle.wl_match.specs.Pattern.{also};
 ghost use Rattle.wl_match.specs.Plays.{Expands, Plays, Turns, skipping, taken_before, taken_by};
 ghost use Rattle.wl_match.specs.Runs.{part_at, run_at};
+ghost use Rattle.wl_match.specs.Serves.{ElementServes, ElementsFit, ElementsServe, Fits, Steady, element_fits, left_fits};
 ghost use Rattle.wl_match.specs.Trials.{shaped, stretches, takes};
 
 use crate::cuts::{cut, length, others, pick, short, wrapped};
@@ -37,8 +39,9 @@ fn stretch(
     q: usize,
     run: Taken,
 ) -> Result<Taken, Memory>
-    ensures { IfOk result (λ r. run_at pattern.now (plain subject.now) r
+    ensures is { IfOk result (λ r. run_at pattern.now (plain subject.now) r
         ≡ shaped (stretches (site_at pattern.now i) (pat pattern.now q)) (head_at (part_at pattern.now i)) (run_at pattern.now (plain subject.now) run)) }
+    ensures serves { IfOk result (λ r. IsTrue (element_fits pattern.now (plain subject.now) i run) → ElementServes pattern.now (plain subject.now) i q r) }
 {
     if pattern.stretches(i, q) {
         let whole = wrapped(alloc, pattern, subject, i, &run);
@@ -59,7 +62,8 @@ impl Walk {
         j: usize,
         left: &Taken,
     ) -> Result<Step, Memory>
-        ensures { IfOk result (λ s. Expands pattern.now (plain subject.now) self.old (Goal.Elements i j left.now) s self.new) }
+        ensures plays { IfOk result (λ s. Expands pattern.now (plain subject.now) self.old (Goal.Elements i j left.now) s self.new) }
+        ensures fits { IfOk result (λ _. Steady pattern.now (plain subject.now) (Goal.Elements i j left.now) self.old self.new) }
     {
         let n = length(pattern, subject, left);
         if j >= pattern.inside(i).len() {
@@ -81,7 +85,8 @@ impl Walk {
         low: usize,
         count: usize,
     ) -> Result<Step, Memory>
-        ensures { IfOk result (λ s. Expands pattern.now (plain subject.now) self.old (Goal.Lengths i j left.now low count) s self.new) }
+        ensures plays { IfOk result (λ s. Expands pattern.now (plain subject.now) self.old (Goal.Lengths i j left.now low count) s self.new) }
+        ensures fits { IfOk result (λ _. Steady pattern.now (plain subject.now) (Goal.Lengths i j left.now low count) self.old self.new) }
     {
         let q = match pattern.child(i, j) {
             Some(q) => q,
@@ -113,9 +118,11 @@ impl Walk {
         low: usize,
     ) -> Result<(), Memory>
         requires { IsChild pattern.now i j (Some q) }
-        ensures { IfOk result (λ _. Turns pattern.now (plain subject.now)
+        ensures turns { IfOk result (λ _. Turns pattern.now (plain subject.now)
             (takes (flags_at (part_at pattern.now i)).orderless (taken_by pattern.now (plain subject.now) self.old i j q)
             (run_at pattern.now (plain subject.now) left.now) low) self.old self.new) }
+        ensures fits { IfOk result (λ _. ElementsFit pattern.now (plain subject.now) i j left.now
+            → Fits pattern.now (plain subject.now) self.old → Fits pattern.now (plain subject.now) self.new) }
     {
         if pattern.flags(i).orderless {
             let chosen = Places::new(self.alloc);
@@ -142,9 +149,12 @@ impl Walk {
         run: Taken,
         left: Taken,
     ) -> Result<(), Memory>
-        ensures { IfOk result (λ _. Turns pattern.now (plain subject.now)
+        ensures turns { IfOk result (λ _. Turns pattern.now (plain subject.now)
             (taken_before pattern.now (plain subject.now) self.old i next q
             (run_at pattern.now (plain subject.now) run) (run_at pattern.now (plain subject.now) left)) self.old self.new) }
+        ensures fits { IfOk result (λ _. IsTrue (element_fits pattern.now (plain subject.now) i run) → IsTrue (left_fits pattern.now (plain subject.now) i left)
+            → ElementsServe pattern.now i (also (pat pattern.now q) (from_child pattern.now i next))
+            → Fits pattern.now (plain subject.now) self.old → Fits pattern.now (plain subject.now) self.new) }
     {
         self.put(Goal::Elements(i, next, left))?;
         let stretched = stretch(self.alloc, pattern, subject, i, q, run)?;
@@ -162,8 +172,11 @@ impl Walk {
         q: usize,
         left: &Taken,
     ) -> Result<Step, Memory>
-        ensures { IfOk result (λ s. Plays pattern.now (plain subject.now)
+        requires { IsChild pattern.now i j (Some q) }
+        ensures plays { IfOk result (λ s. Plays pattern.now (plain subject.now)
             (skipping pattern.now (plain subject.now) self.old i j q left.now) self.old s self.new) }
+        ensures fits { IfOk result (λ _. ElementsFit pattern.now (plain subject.now) i j left.now
+            → Fits pattern.now (plain subject.now) self.old → Fits pattern.now (plain subject.now) self.new) }
     {
         let default = match pattern.default_at(i, j, q) {
             Some(default) => default,
@@ -189,7 +202,8 @@ impl Walk {
         i: usize,
         run: Taken,
     ) -> Result<Step, Memory>
-        ensures { IfOk result (λ s. Expands pattern.now (plain subject.now) self.old (Goal.Bind i run) s self.new) }
+        ensures plays { IfOk result (λ s. Expands pattern.now (plain subject.now) self.old (Goal.Bind i run) s self.new) }
+        ensures fits { IfOk result (λ _. Steady pattern.now (plain subject.now) (Goal.Bind i run) self.old self.new) }
     {
         let step = self.bind(pattern, subject, i, &run);
         drop(run);
@@ -209,7 +223,8 @@ impl Walk {
         chosen: &Places,
         skipped: &Places,
     ) -> Result<Step, Memory>
-        ensures { IfOk result (λ s. Expands pattern.now (plain subject.now) self.old (Goal.Pick i j left.now more at chosen.now skipped.now) s self.new) }
+        ensures plays { IfOk result (λ s. Expands pattern.now (plain subject.now) self.old (Goal.Pick i j left.now more at chosen.now skipped.now) s self.new) }
+        ensures fits { IfOk result (λ _. Steady pattern.now (plain subject.now) (Goal.Pick i j left.now more at chosen.now skipped.now) self.old self.new) }
     {
         let q = match pattern.child(i, j) {
             Some(q) => q,

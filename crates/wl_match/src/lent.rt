@@ -1,9 +1,12 @@
 //! Runs as they are lent from pattern and subject.
-ghost use Rattle.std.specs.Prelude.{◌≡◌, ◌∷◌, [], take, drop, map, length, slice_get};
+ghost use Rattle.std.specs.Prelude.{◌≡◌, ◌∷◌, [], List, take, drop, map, length, slice_get, IfSome};
+ghost use Rattle.std.specs.List.{All};
 ghost use Rattle.std.specs.Option.{option_map};
 ghost use Rattle.wl_expr.specs.Same as trees;
 ghost use Rattle.wl_expr.specs.Same.{same_lists};
-ghost use Rattle.wl_expr.specs.Stamped.{plain};
+ghost use Rattle.wl_expr.specs.Passed.{IsFrom};
+ghost use Rattle.wl_expr.specs.Stamped.{Stamped, plain};
+ghost use Rattle.wl_match.specs.Parts.{kept, kept_by};
 ghost use Rattle.wl_expr.specs.Tree as tree;
 ghost use Rattle.wl_match.specs.Runs as run;
 ghost use Rattle.wl_match.specs.Runs.{both_same, child, elements_of, keeps, run_at, trees_in, trees_of};
@@ -40,8 +43,10 @@ pub(crate) enum Lent<'m, 'a> {
     Wrapped(&'a Expr, Items<'m, 'a>),
 }
 
+#[tactic(auto, using(wl_expr::proofs::Passing::head_from, wl_expr::proofs::Passing::args_from))]
 pub(crate) fn args_of(t: &Expr) -> &[Expr]
-    ensures { map plain result.now ≡ elements_of (plain t.now) }
+    ensures is { map plain result.now ≡ elements_of (plain t.now) }
+    ensures passed { (ms : List Stamped) → IsFrom ms t.now → All (IsFrom ms) result.now }
 {
     match t.view() {
         Look::Node(_, args) => args,
@@ -50,8 +55,10 @@ pub(crate) fn args_of(t: &Expr) -> &[Expr]
 }
 
 /// The head at 0, or an element; the expression itself where there is none.
+#[tactic(auto, using(wl_expr::proofs::Passing::head_from, wl_expr::proofs::Passing::args_from))]
 fn child_of(t: &Expr, step: u32) -> &Expr
-    ensures { plain result.now ≡ child step (plain t.now) }
+    ensures is { plain result.now ≡ child step (plain t.now) }
+    ensures passed { (ms : List Stamped) → IsFrom ms t.now → IsFrom ms result.now }
 {
     match t.view() {
         Look::Node(head, args) => {
@@ -68,8 +75,9 @@ fn child_of(t: &Expr, step: u32) -> &Expr
 }
 
 /// The expression that a part keeps.
-fn kept_by(part: &Part) -> Option<&Expr>
-    ensures { option_map (λ r. plain r.now) result ≡ keeps part.now }
+fn kept_in(part: &Part) -> Option<&Expr>
+    ensures is { option_map (λ r. plain r.now) result ≡ keeps part.now }
+    ensures passed { IfSome result (λ r. (ms : List Stamped) → All (IsFrom ms) (kept_by part.now) → IsFrom ms r.now) }
 {
     match part {
         Part::Exactly(t)
@@ -84,10 +92,11 @@ fn kept_by(part: &Part) -> Option<&Expr>
 }
 
 pub(crate) fn kept_at<'a>(pattern: &'a Pattern, subject: &'a Expr, part: usize) -> &'a Expr
-    ensures { plain result.now ≡ run.kept_at pattern.now (plain subject.now) part }
+    ensures is { plain result.now ≡ run.kept_at pattern.now (plain subject.now) part }
+    ensures passed { (ms : List Stamped) → IsFrom ms subject.now → All (IsFrom ms) (kept pattern.now) → IsFrom ms result.now }
 {
     match pattern.part(part) {
-        Some(part) => match kept_by(part) {
+        Some(part) => match kept_in(part) {
             Some(kept) => kept,
             None => subject,
         },
@@ -96,7 +105,8 @@ pub(crate) fn kept_at<'a>(pattern: &'a Pattern, subject: &'a Expr, part: usize) 
 }
 
 pub(crate) fn tree_at<'a>(pattern: &'a Pattern, subject: &'a Expr, place: &Place) -> &'a Expr
-    ensures { plain result.now ≡ run.tree_at pattern.now (plain subject.now) place.now }
+    ensures is { plain result.now ≡ run.tree_at pattern.now (plain subject.now) place.now }
+    ensures passed { (ms : List Stamped) → IsFrom ms subject.now → All (IsFrom ms) (kept pattern.now) → IsFrom ms result.now }
 {
     let mut t = match place.root {
         None => subject,
@@ -127,6 +137,7 @@ pub(crate) fn lend<'m, 'a>(pattern: &'a Pattern, subject: &'a Expr, run: &'m Tak
     ensures { trees_of result ≡ run_at pattern.now (plain subject.now) run.now }
 {
     match run {
+        Taken::Nothing => Lent::These(Items::Slice(&[])),
         Taken::Tree(place) => {
             let t = tree_at(pattern, subject, place);
             Lent::These(Items::Slice(std::slice::from_ref(t)))
@@ -149,7 +160,8 @@ pub(crate) fn lend<'m, 'a>(pattern: &'a Pattern, subject: &'a Expr, run: &'m Tak
 
 /// The element at a place; the expression itself where there is none.
 pub(crate) fn element_at(t: &Expr, place: u32) -> &Expr
-    ensures { plain result.now ≡ run.element_at (plain t.now) place }
+    ensures is { plain result.now ≡ run.element_at (plain t.now) place }
+    ensures passed { (ms : List Stamped) → IsFrom ms t.now → IsFrom ms result.now }
 {
     let args = args_of(t);
     if (place as usize) < args.len() {

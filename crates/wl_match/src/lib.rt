@@ -20,14 +20,18 @@ mod sorts;
 mod stack;
 mod steps;
 mod taken;
+mod view;
+mod viewing;
 mod walk;
 mod walking;
 
 pub use flags::Flags;
 pub use heads::{head_at, head_count};
 pub use leaf::Leaf;
+pub use lent::Run;
 pub use machine::Machine;
 pub use pattern::Pattern;
+pub use view::{Test, View};
 
 #[cfg(test)]
 mod tests;

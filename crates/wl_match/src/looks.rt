@@ -1,7 +1,9 @@
 //! What a search asks a pattern.
-ghost use Rattle.std.specs.Prelude.{◌≡◌, ◌+◌, ℕ, IfOk, None};
+ghost use Rattle.std.specs.Prelude.{◌≡◌, ◌+◌, ℕ, IfOk, IfSome, IsTrue, None};
 ghost use Rattle.std.specs.Option.{option_map};
 ghost use Rattle.wl_expr.specs.Tree.{Tree};
+ghost use Rattle.wl_match.specs.Fits.{all_fit, fits, mark_fits, may_lend};
+ghost use Rattle.wl_match.specs.Kinds.{of_name};
 ghost use Rattle.wl_match.specs.Means as mean;
 ghost use Rattle.wl_match.specs.Means.{BindsTo, HasSpan, IsChild, IsHead, IsHeadAt, children, entries, flags_at, from_child, name_at, site_at};
 ghost use Rattle.wl_expr.specs.Stamped.{plain};
@@ -358,7 +360,9 @@ impl Pattern {
 
     /// The run that a mark binds to this name.
     fn bound_by<'m>(&self, mark: &'m Mark, name: &str) -> Option<&'m Taken>
-        ensures { BindsTo self.now name.now mark.now result }
+        ensures binds { BindsTo self.now name.now mark.now result }
+        ensures fits { IfSome result (λ r. (t : Tree) → IsTrue (mark_fits self.now t mark.now)
+            → IsTrue (fits self.now t r.now) × IsTrue (may_lend self.now t (of_name name.now) r.now)) }
     {
         match mark {
             Mark::Bound(j, run) => {
@@ -374,7 +378,9 @@ impl Pattern {
 
     /// The run that is bound to this name.
     pub(crate) fn find_name<'m>(&self, trail: &'m [Mark], name: &str) -> Option<&'m Taken>
-        ensures { (t : Tree) → option_map (λ r. run_at self.now t r.now) result ≡ run_of name.now (entries self.now t trail.now) }
+        ensures run { (t : Tree) → option_map (λ r. run_at self.now t r.now) result ≡ run_of name.now (entries self.now t trail.now) }
+        ensures fits { (t : Tree) → IsTrue (all_fit self.now t trail.now)
+            → IfSome result (λ r. IsTrue (fits self.now t r.now) × IsTrue (may_lend self.now t (of_name name.now) r.now)) }
     {
         for mark in trail {
             match self.bound_by(mark, name) {

@@ -5,7 +5,8 @@ ghost use Rattle.wl_match.specs.declared.part.Part.{Part};
 ghost use Rattle.wl_expr.specs.Stamped.{plain};
 ghost use Rattle.wl_match.specs.Parts.{whole};
 ghost use Rattle.wl_match.specs.Plays.{Expands, Reaches, now, rest};
-ghost use Rattle.wl_match.specs.Left.{Answers, IsDead, left};
+ghost use Rattle.wl_match.specs.Left.{Answers, IsDead, Searches, left};
+ghost use Rattle.wl_match.specs.Serves.{Fits, Steady};
 ghost use Rattle.wl_ports.specs.Counted.{add_to_last};
 ghost use Rattle.wl_match.specs.Search.{leaves};
 ghost use Rattle.wl_match.specs.Trials.{Trials};
@@ -34,7 +35,8 @@ pub struct Machine {
 
 /// The whole search as a choice.
 fn begin(alloc: Global, pattern: &Pattern) -> Result<Walk, Memory>
-    ensures { IfOk result (λ w. (t : Tree) → rest pattern.now t w ≡ Trials (whole pattern.now) t) }
+    ensures leaves { IfOk result (λ w. (t : Tree) → rest pattern.now t w ≡ Trials (whole pattern.now) t) }
+    ensures fits { IfOk result (λ w. (t : Tree) → Fits pattern.now t w) }
 {
     let mut walk = Walk::new(alloc);
     let place = Place::top(alloc);
@@ -44,7 +46,8 @@ fn begin(alloc: Global, pattern: &Pattern) -> Result<Walk, Memory>
 
 impl Walk {
     fn expand(&mut self, pattern: &Pattern, subject: &Expr, goal: &Goal) -> Result<Step, Memory>
-        ensures { IfOk result (λ s. Expands pattern.now (plain subject.now) self.old goal.now s self.new) }
+        ensures plays { IfOk result (λ s. Expands pattern.now (plain subject.now) self.old goal.now s self.new) }
+        ensures fits { IfOk result (λ _. Steady pattern.now (plain subject.now) goal.now self.old self.new) }
     {
         match goal {
             Goal::Match(i, run) => self.try_part(pattern, subject, *i, run),
@@ -64,7 +67,8 @@ impl Walk {
 
     /// The same of a goal that nothing else needs.
     fn play(&mut self, pattern: &Pattern, subject: &Expr, goal: Goal) -> Result<Step, Memory>
-        ensures { IfOk result (λ s. Expands pattern.now (plain subject.now) self.old goal s self.new) }
+        ensures plays { IfOk result (λ s. Expands pattern.now (plain subject.now) self.old goal s self.new) }
+        ensures fits { IfOk result (λ _. Steady pattern.now (plain subject.now) goal self.old self.new) }
     {
         let step = self.expand(pattern, subject, &goal);
         drop(goal);
@@ -72,8 +76,9 @@ impl Walk {
     }
 
     fn run(&mut self, pattern: &Pattern, subject: &Expr) -> Result<Leaf, Memory>
-        ensures { IfOk result (λ a. Reaches pattern.now (plain subject.now)
+        ensures leaf { IfOk result (λ a. Reaches pattern.now (plain subject.now)
             (leaves (now pattern.now (plain subject.now) self.old) ++ rest pattern.now (plain subject.now) self.old) a self.new) }
+        ensures fits { IfOk result (λ _. Fits pattern.now (plain subject.now) self.old → Fits pattern.now (plain subject.now) self.new) }
     {
         while let Some(goal) = self.first()? {
             match self.play(pattern, subject, goal)? {
@@ -85,7 +90,8 @@ impl Walk {
     }
 
     fn next(&mut self, pattern: &Pattern, subject: &Expr) -> Result<Leaf, Memory>
-        ensures { IfOk result (λ a. Reaches pattern.now (plain subject.now) (rest pattern.now (plain subject.now) self.old) a self.new) }
+        ensures leaf { IfOk result (λ a. Reaches pattern.now (plain subject.now) (rest pattern.now (plain subject.now) self.old) a self.new) }
+        ensures fits { IfOk result (λ _. Fits pattern.now (plain subject.now) self.old → Fits pattern.now (plain subject.now) self.new) }
     {
         if !self.back() {
             return Ok(Leaf::End);
@@ -98,7 +104,8 @@ impl Walk {
 impl Machine {
     /// A search that begins.
     pub fn start(alloc: Global) -> Machine
-        ensures { (ss : List Part) (t : Tree) → left ss t result ≡ Trials (whole ss) t }
+        ensures leaves { (ss : List Part) (t : Tree) → left ss t result ≡ Trials (whole ss) t }
+        ensures searches { (ss : List Part) (t : Tree) → Searches ss t result }
     {
         Machine {
             state: State::Fresh(alloc),
@@ -108,6 +115,7 @@ impl Machine {
     fn begun(&mut self, pattern: &Pattern) -> Result<(), Memory>
         ensures same { IfOk result (λ _. (t : Tree) → left pattern.now t self.new ≡ left pattern.now t self.old) }
         ensures still { IsDead self.old → IfOk result (λ _. IsDead self.new) }
+        ensures searches { IfOk result (λ _. (t : Tree) → Searches pattern.now t self.old → Searches pattern.now t self.new) }
     {
         if let State::Fresh(alloc) = self.state {
             self.state = State::Begun(begin(alloc, pattern)?);
@@ -117,6 +125,7 @@ impl Machine {
 
     fn step(&mut self, pattern: &Pattern, subject: &Expr) -> Result<Leaf, Memory>
         ensures leaf { IfOk result (λ a. Answers pattern.now (plain subject.now) self.old a self.new) }
+        ensures searches { IfOk result (λ _. Searches pattern.now (plain subject.now) self.old → Searches pattern.now (plain subject.now) self.new) }
         ensures still { IsDead self.old → IsErr result }
     {
         self.begun(pattern)?;
@@ -137,6 +146,7 @@ impl Machine {
         work: &mut Work<L>,
     ) -> Result<Leaf, Memory>
         ensures leaf { IfOk result (λ a. Answers pattern.now (plain subject.now) self.old a self.new) }
+        ensures searches { Searches pattern.now (plain subject.now) self.old → Searches pattern.now (plain subject.now) self.new }
         ensures ticks { work.new ≡ add_to_last 1 work.old }
         ensures dead { IfErr result (λ _. IsDead self.new) }
         ensures still { IsDead self.old → IsErr result }

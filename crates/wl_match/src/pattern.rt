@@ -37,7 +37,7 @@ pub struct Pattern {
 impl Model for Pattern {
     ghost use Rattle.std.specs.Prelude.{◌≡◌, List};
     ghost use Rattle.wl_match.specs.declared.part.Part.{Part};
-    ghost use Rattle.wl_match.specs.Parts.{HasDefaults, IsBehind};
+    ghost use Rattle.wl_match.specs.Parts.{HasDefaults, HaveOwnHeads, IsBehind};
     ghost use Rattle.wl_match.specs.Sizes.{sizes_of};
 
     ghost Value = { List Part };
@@ -49,7 +49,7 @@ impl Model for Pattern {
 
     ghost view = { λ q. q.parts.items };
 
-    ghost invariant = { λ q. IsBehind 0 q.parts.items × (HasDefaults q.parts.items × (q.sizes.items ≡ sizes_of q.parts.items)) };
+    ghost invariant = { λ q. IsBehind 0 q.parts.items × (HasDefaults q.parts.items × ((q.sizes.items ≡ sizes_of q.parts.items) × HaveOwnHeads q.parts.items)) };
 }
 
 impl Pattern {

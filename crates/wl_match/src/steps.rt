@@ -1,21 +1,23 @@
 //! The steps of a search at a part of the pattern.
-ghost use Rattle.std.specs.Prelude.{◌≡◌, ◌∷◌, [], ◌&&◌, cond, false, true, IfOk, List};
+ghost use Rattle.std.specs.Prelude.{◌≡◌, ◌∷◌, [], ◌&&◌, cond, false, true, IfOk, IfSome, IsTrue, List};
 ghost use Rattle.wl_expr.specs.Tree.{Tree};
 ghost use Rattle.wl_match.specs.declared.part.Part.{Part};
 ghost use Rattle.std.specs.Option.{option_map};
 ghost use Rattle.wl_expr.specs.Stamped.{plain};
 ghost use Rattle.wl_match.specs.Means.{allows_length};
-ghost use Rattle.wl_match.specs.Parts.{count_of, pat, pats_of};
+ghost use Rattle.wl_match.specs.Parts.{count_of, has_own_head, pat, pats_of};
 ghost use Rattle.wl_match.specs.Pattern as patterns;
+ghost use Rattle.wl_match.specs.Pattern.{nodes};
 ghost use Rattle.wl_match.specs.Means as mean;
 ghost use Rattle.wl_match.specs.Means.{site_at};
 ghost use Rattle.wl_match.specs.Plays.{Expands, Plays, Puts, excepting, noding, opening, repeating, step_of};
+ghost use Rattle.wl_match.specs.Serves.{Fits, GoalFits, NodeServes, Steady, is_bare, is_like};
 ghost use Rattle.wl_match.specs.Runs as runs;
 ghost use Rattle.wl_match.specs.Runs.{child, run_at, trees_of};
 ghost use Rattle.wl_match.specs.Trials.{allows};
 ghost use Rattle.wl_match.specs.Trials as trials;
 
-use crate::cuts::{cut, length, short};
+use crate::cuts::{alone, cut, length, short};
 use crate::flags::Flags;
 use crate::leaf::Step;
 use crate::lent::{Items, Lent, args_of, lend, tree_at};
@@ -75,7 +77,8 @@ impl Walk {
         i: usize,
         run: &Taken,
     ) -> Result<Step, Memory>
-        ensures { IfOk result (λ s. Expands pattern.now (plain subject.now) self.old (Goal.Match i run.now) s self.new) }
+        ensures plays { IfOk result (λ s. Expands pattern.now (plain subject.now) self.old (Goal.Match i run.now) s self.new) }
+        ensures fits { IfOk result (λ _. Steady pattern.now (plain subject.now) (Goal.Match i run.now) self.old self.new) }
     {
         let part = match pattern.part(i) {
             Some(part) => part,
@@ -148,8 +151,9 @@ impl Walk {
         q: usize,
         run: &Taken,
     ) -> Result<Step, Memory>
-        ensures { IfOk result (λ s. Plays pattern.now (plain subject.now)
+        ensures plays { IfOk result (λ s. Plays pattern.now (plain subject.now)
             (repeating pattern.now (plain subject.now) self.old (count_of number) q run.now) self.old s self.new) }
+        ensures fits { IfOk result (λ _. Steady pattern.now (plain subject.now) (Goal.Turn q run.now) self.old self.new) }
     {
         if is_allowed(number, length(pattern, subject, run)) {
             self.put(Goal::Turn(q, run.copy()?))?;
@@ -167,8 +171,10 @@ impl Walk {
         q: Option<usize>,
         run: &Taken,
     ) -> Result<Step, Memory>
-        ensures { IfOk result (λ s. Plays pattern.now (plain subject.now)
+        ensures plays { IfOk result (λ s. Plays pattern.now (plain subject.now)
             (excepting pattern.now (plain subject.now) self.old i q run.now) self.old s self.new) }
+        ensures fits { IfOk result (λ _. IfSome q (λ q. GoalFits pattern.now (plain subject.now) (Goal.Match q run.now))
+            → Steady pattern.now (plain subject.now) (Goal.Note i run.now) self.old self.new) }
     {
         if length(pattern, subject, run) != 1 {
             return Ok(Step::Failed);
@@ -198,16 +204,22 @@ impl Walk {
     ) -> Result<Step, Memory>
         requires site { site_at pattern.now i ≡ record { head = plain head.now; flags = flags } }
         requires parts { mean.inside pattern.now i ≡ parts.now }
-        ensures { IfOk result (λ s. Plays pattern.now (plain subject.now)
+        requires is { pat pattern.now i ≡ nodes flags (plain head.now) (pat pattern.now hp) (pats_of (pat pattern.now) parts.now) }
+        requires own { IsTrue (has_own_head (pat pattern.now i)) }
+        ensures plays { IfOk result (λ s. Plays pattern.now (plain subject.now)
             (noding pattern.now (plain subject.now) self.old i hp run.now) self.old s self.new) }
+        ensures fits { IfOk result (λ _. Steady pattern.now (plain subject.now) (Goal.Match i run.now) self.old self.new) }
     {
         if length(pattern, subject, run) != 1 {
             return Ok(Step::Failed);
         }
         let is_headed = have(&lend(pattern, subject, run), head);
         if stands_alone(pattern, flags, parts, is_headed) {
-            self.put(Goal::Elements(i, 0, run.copy()?))?;
+            self.put(Goal::Elements(i, 0, alone(run)?))?;
             return Ok(Step::Went);
+        }
+        if flags.flat && !is_headed {
+            return Ok(Step::Failed);
         }
         let step = self.open(pattern, subject, i, hp, run)?;
         Ok(step)
@@ -222,10 +234,14 @@ impl Walk {
         hp: usize,
         run: &Taken,
     ) -> Result<Step, Memory>
-        ensures { IfOk result (λ s. (u : Tree) → run_at pattern.now (plain subject.now) run.now ≡ u ∷ []
+        ensures plays { IfOk result (λ s. (u : Tree) → run_at pattern.now (plain subject.now) run.now ≡ u ∷ []
             → Plays pattern.now (plain subject.now) (opening pattern.now (plain subject.now) self.old i hp u) self.old s self.new) }
+        ensures fits { IfOk result (λ _. (u : Tree) → run_at pattern.now (plain subject.now) run.now ≡ u ∷ []
+            → IsTrue (is_bare run.now) → IsTrue (is_like pattern.now i u) → NodeServes pattern.now i hp
+            → Fits pattern.now (plain subject.now) self.old → Fits pattern.now (plain subject.now) self.new) }
     {
         match run {
+            Taken::Nothing => Ok(Step::Failed),
             Taken::Tree(place) => {
                 let step = self.open_at(pattern, subject, i, hp, place)?;
                 Ok(step)
@@ -263,8 +279,10 @@ impl Walk {
         place: &Place,
         step: u32,
     ) -> Result<Step, Memory>
-        ensures { IfOk result (λ s. Plays pattern.now (plain subject.now)
+        ensures plays { IfOk result (λ s. Plays pattern.now (plain subject.now)
             (opening pattern.now (plain subject.now) self.old i hp (child step (runs.tree_at pattern.now (plain subject.now) place.now))) self.old s self.new) }
+        ensures fits { IfOk result (λ _. IsTrue (is_like pattern.now i (child step (runs.tree_at pattern.now (plain subject.now) place.now)))
+            → NodeServes pattern.now i hp → Fits pattern.now (plain subject.now) self.old → Fits pattern.now (plain subject.now) self.new) }
     {
         let below = place.below(step)?;
         let step = self.open_at(pattern, subject, i, hp, &below)?;
@@ -280,8 +298,10 @@ impl Walk {
         hp: usize,
         place: &Place,
     ) -> Result<Step, Memory>
-        ensures { IfOk result (λ s. Plays pattern.now (plain subject.now)
+        ensures plays { IfOk result (λ s. Plays pattern.now (plain subject.now)
             (opening pattern.now (plain subject.now) self.old i hp (runs.tree_at pattern.now (plain subject.now) place.now)) self.old s self.new) }
+        ensures fits { IfOk result (λ _. IsTrue (is_like pattern.now i (runs.tree_at pattern.now (plain subject.now) place.now))
+            → NodeServes pattern.now i hp → Fits pattern.now (plain subject.now) self.old → Fits pattern.now (plain subject.now) self.new) }
     {
         match tree_at(pattern, subject, place).view() {
             Look::Node(_, args) => {
@@ -305,7 +325,8 @@ impl Walk {
         from: usize,
         run: &Taken,
     ) -> Result<Step, Memory>
-        ensures { IfOk result (λ s. Expands pattern.now (plain subject.now) self.old (Goal.Members i from run.now) s self.new) }
+        ensures plays { IfOk result (λ s. Expands pattern.now (plain subject.now) self.old (Goal.Members i from run.now) s self.new) }
+        ensures fits { IfOk result (λ _. Steady pattern.now (plain subject.now) (Goal.Members i from run.now) self.old self.new) }
     {
         let members = pattern.inside(i);
         if from >= members.len() {
@@ -328,7 +349,8 @@ impl Walk {
         i: usize,
         run: &Taken,
     ) -> Result<Step, Memory>
-        ensures { IfOk result (λ s. Expands pattern.now (plain subject.now) self.old (Goal.Turn i run.now) s self.new) }
+        ensures plays { IfOk result (λ s. Expands pattern.now (plain subject.now) self.old (Goal.Turn i run.now) s self.new) }
+        ensures fits { IfOk result (λ _. Steady pattern.now (plain subject.now) (Goal.Turn i run.now) self.old self.new) }
     {
         let n = length(pattern, subject, run);
         if n == 0 {
@@ -342,7 +364,8 @@ impl Walk {
     }
 
     pub(crate) fn note(&mut self, i: usize, run: &Taken) -> Result<Step, Memory>
-        ensures { IfOk result (λ s. (ss : List Part) (t : Tree) → Expands ss t self.old (Goal.Note i run.now) s self.new) }
+        ensures plays { IfOk result (λ s. (ss : List Part) (t : Tree) → Expands ss t self.old (Goal.Note i run.now) s self.new) }
+        ensures fits { IfOk result (λ _. (ss : List Part) (t : Tree) → Steady ss t (Goal.Note i run.now) self.old self.new) }
     {
         self.mark(Mark::Noted(i, run.copy()?))?;
         Ok(Step::Went)
@@ -355,7 +378,8 @@ impl Walk {
         i: usize,
         run: &Taken,
     ) -> Result<Step, Memory>
-        ensures { IfOk result (λ s. Expands pattern.now (plain subject.now) self.old (Goal.Bind i run.now) s self.new) }
+        ensures plays { IfOk result (λ s. Expands pattern.now (plain subject.now) self.old (Goal.Bind i run.now) s self.new) }
+        ensures fits { IfOk result (λ _. Steady pattern.now (plain subject.now) (Goal.Bind i run.now) self.old self.new) }
     {
         match pattern.find_bound(self.trail.as_slice(), i) {
             Some(other) => {

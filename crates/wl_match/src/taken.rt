@@ -16,6 +16,8 @@ pub(crate) struct Place {
 /// A run of expressions.
 #[derive(Drop)]
 pub(crate) enum Taken {
+    /// No expression, beside one that stands alone.
+    Nothing,
     /// The expression at a place.
     Tree(Place),
     /// Elements of the node there: from which on, and how many.
@@ -107,6 +109,7 @@ impl Taken {
         ensures { IfOk result (λ c. c ≡ self.now) }
     {
         match self {
+            Taken::Nothing => Ok(Taken::Nothing),
             Taken::Tree(place) => Ok(Taken::Tree(place.copy()?)),
             Taken::Slice(place, from, count) => Ok(Taken::Slice(place.copy()?, *from, *count)),
             Taken::Picked(place, places) => Ok(Taken::Picked(place.copy()?, places.copy()?)),

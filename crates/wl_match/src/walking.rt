@@ -1,5 +1,8 @@
 //! The moves of a walk.
 ghost use Rattle.std.specs.Prelude.{◌≡◌, ◌++◌, ◌∷◌, [], List, length, reverse, IfOk, MatchResult};
+ghost use Rattle.wl_expr.specs.Tree.{Tree};
+ghost use Rattle.wl_match.specs.declared.part.Part.{Part};
+ghost use Rattle.wl_match.specs.Serves.{Fits};
 ghost use Rattle.wl_match.specs.Plays.{FirstChoice, IsEmpty, Keeps, Marks, Puts, Returns, Takes};
 
 use crate::stack::Stack;
@@ -103,7 +106,8 @@ impl Walk {
 
     /// Goes back to the last choice.
     pub fn back(&mut self) -> bool
-        ensures { Returns self.old self.new result }
+        ensures returns { Returns self.old self.new result }
+        ensures fits { (ss : List Part) (t : Tree) → Fits ss t self.old → Fits ss t self.new }
     {
         match last(&mut self.choices) {
             None => false,

@@ -5,4 +5,4 @@ use Rattle.wl_match.proofs.Subjects.{slice_is}
 use Rattle.wl_match.proofs.lent.lend.Goals as goal
 
 pub returns-in-Slice : goal.returns-in-Slice
-returns-in-Slice c = slice_is _ _ _ _ _ _ c.some_of.ensures c.args_of-args.ensures c.tree_at.ensures ∙ ap (run_at c.args.pattern.now (plain c.args.subject.now)) (sym c.in-Slice.is)
+returns-in-Slice c = slice_is _ _ _ _ _ _ c.some_of.ensures c.args_of-args.ensures.is c.tree_at.ensures.is ∙ ap (run_at c.args.pattern.now (plain c.args.subject.now)) (sym c.in-Slice.is)
