@@ -25,4 +25,8 @@ mod Driving
 mod Beginning
 mod Fitting
 mod Flagging
+mod Bindings
+mod Guarding
+mod Lent
+mod Matches
 mod Computed
