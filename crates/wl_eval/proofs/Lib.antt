@@ -25,6 +25,12 @@ mod Driving
 mod Beginning
 mod Fitting
 mod Flagging
+mod Shapings
+mod Tables
+mod Answering
+mod Notices
+mod Shapes
+mod Rounds
 mod Bindings
 mod Guarding
 mod Lent

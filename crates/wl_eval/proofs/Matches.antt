@@ -43,8 +43,8 @@ use Rattle.wl_eval.specs.Searching.{next_found, found_by, true_of_built, tests_w
 use Rattle.wl_eval.specs.declared.evaluator.Evaluator.{Evaluator}
 use Rattle.wl_eval.specs.declared.ends.Stop.{Stop}
 use Rattle.wl_eval.proofs.Bindings.{bind_assoc, walk_is, after_binding, passes_is, after_tests, or_more, if_so, all_tests, test_within, test_at, tests_is, tests_over, drop_at, drop_item, all_dropped}
-use Rattle.wl_eval.proofs.Fitting.{makes}
 use Rattle.wl_eval.proofs.Playing.{plays_bind, plays_done, plays_done_is}
+use Rattle.wl_eval.proofs.Rounds.{node_makes}
 use Rattle.wl_eval.proofs.Rows.{played_exit, played_bind, leads_played}
 use Rattle.wl_eval.proofs.Values.{passed_honest, built_honest}
 
@@ -146,16 +146,10 @@ pub each_over : (f : Tree) (xs : List Stamped) (i : ℕ) (k : Evaluator) → len
 unfolding each_applies
 each_over f xs i k h = subst (λ z. Plays (each_applies f (trees z)) k (Ok true) k false) (sym (all_dropped xs i h)) plays_done
 
-large_one : (f x : Stamped) (xs : List Stamped) (made : Result Stamped ExprFault) → xs ≡ x ∷ [] → ((made ≡ Err fault.Large) ↔ ¬ IsWithinLimits (tree.node (plain f) (plains (from_list xs)))) → (made ≡ Err fault.Large) ↔ ¬ IsWithinLimits (applied (plain f) (plain x ∷ []))
-large_one f x xs made e l = subst (λ z. (made ≡ Err fault.Large) ↔ ¬ IsWithinLimits (tree.node (plain f) (plains (from_list z)))) e l
-
-made_one : (f x : Stamped) (xs : List Stamped) (made : Result Stamped ExprFault) → xs ≡ x ∷ [] → IfOk made (λ e. e ≡ stamped.node None f (from_list xs)) → IfOk made (λ e. plain e ≡ applied (plain f) (plain x ∷ []))
-made_one f x xs (Ok e) q h = ap plain (h ∙ ap (λ z. stamped.node None f (from_list z)) q)
-made_one f x xs (Err d) q h = tt
-
+-- the function of one expression, as it was made
 pub one_makes : (f x : Stamped) (xs : List Stamped) (made : Result Stamped ExprFault) → xs ≡ x ∷ [] → IfOk made (λ e. e ≡ stamped.node None f (from_list xs)) → ((made ≡ Err fault.Large) ↔ ¬ IsWithinLimits (tree.node (plain f) (plains (from_list xs))))
     → Makes (applied (plain f) (plain x ∷ [])) made
-one_makes f x xs made e o l = makes _ made (made_one f x xs made e o) (large_one f x xs made e l)
+one_makes f x xs made e o l = subst (λ z. Makes (applied (plain f) (trees z)) made) e (node_makes f xs made o l)
 
 -- ---- `Except[p]`
 

@@ -31,6 +31,9 @@ pub mod Logs
 pub mod Played
 pub mod Searching
 pub mod Recall
+-- What the functions of a turn say besides.
+pub mod Kinds
+pub mod Parts
 -- Sessions that are computed.
 pub mod Cells
 pub mod WorkedCells

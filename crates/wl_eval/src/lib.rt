@@ -1,12 +1,15 @@
 //! The definition of evaluation, and its laws.
 #![tactic(auto)]
 
+mod applying;
+mod built_in;
 mod effects;
 mod elements;
 mod ends;
 mod evaluation;
 mod evaluator;
 mod guard;
+mod kind;
 pub mod laws;
 mod levels;
 mod looks;
@@ -14,7 +17,9 @@ mod matching;
 mod messages;
 mod recall;
 mod runs;
+mod shaping;
 mod standin;
 mod trial;
+mod turn;
 
 pub use evaluator::Line;
