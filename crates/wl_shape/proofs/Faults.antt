@@ -8,7 +8,7 @@ use Rattle.wl_expr.specs.Tree.{Tree, IsWithinLimits}
 use Rattle.wl_expr.specs.Words.{applied}
 use Rattle.wl_expr.specs.declared.fault.ExprFault.{ExprFault}
 use Rattle.wl_expr.specs.declared.fault.ExprFault.TheVariants.{Memory, Large}
-use Rattle.wl_shape.specs.Answers.{IsMade, IsShaped, trees}
+use Rattle.wl_shape.specs.Answers.{IsFilled, IsMade, IsShaped, trees}
 use Rattle.wl_shape.specs.Shape.{Shaped, shaped_tree}
 use Rattle.wl_shape.specs.declared.arrangement.Shaped as code
 
@@ -47,3 +47,8 @@ fault_passed_on d made r m h l =
     let e : r ≡ Err d = p.1 ∙ ap Err p.2 in
     let same : d ≡ Large = cc in
     m ∙ ap Err same
+
+pub fault_fills : (t : Tree) (d : ExprFault) (before r : Result Stamped ExprFault) → before ≡ Err d → IsErrAnd r (λ y. y ≡ d) → (before ≡ Err Large → ¬ IsWithinLimits t) → IsFilled t r
+fault_fills t d before r b h large =
+    let p = err_from_is_err_and r h in
+    record { is = subst (λ q. IfOk q (λ e. (plain e ≡ t) × IsWithinLimits t)) (sym (p.1 ∙ ap Err p.2)) tt; large = λ l. large (fault_passed_on d before r b h l) }

@@ -7,3 +7,15 @@ mod Splits
 mod Splices
 mod Threads
 mod Parameters
+mod Members
+mod Sets
+mod Fresh
+mod Renamings
+mod Meetings
+mod Holdings
+mod Lent
+mod Preparing
+mod Fillings
+mod Agreement
+mod Standings
+mod Formals

@@ -31,6 +31,11 @@ pub record IsMade (t : Tree) (r : Result Stamped ExprFault) : Type 0 where
   pub tree : IfOk r (λ e. plain e ≡ t)
   pub large : r ≡ Err Large → ¬ IsWithinLimits t
 
+-- the expression is this tree, which fits; and Large comes only where it doesn't
+pub record IsFilled (t : Tree) (r : Result Stamped ExprFault) : Type 0 where
+  pub is : IfOk r (λ e. (plain e ≡ t) × IsWithinLimits t)
+  pub large : r ≡ Err Large → ¬ IsWithinLimits t
+
 -- the answer is this shape, whose tree fits; and Large comes only where it doesn't
 abbrev pub ShapeFits : Shaped → code.Shaped → Type 0
 ShapeFits s v = (plain_shaped v ≡ s) × IsWithinLimits (shaped_tree s)

@@ -1,5 +1,5 @@
 -- Filling: names in a body are replaced by trees. Inner scopes shadow, and a formal parameter that would capture gets `$` appended. Tutorial on pure functions and on Module; the renaming is this project's own.
-use Rattle.std.specs.Prelude.{ℕ, zero, suc, ◌+◌, true, false, List, [], ◌∷◌, ◌++◌, length, map, Option, Some, None, codes, decimal, bytes_eq}
+use Rattle.std.specs.Prelude.{ℕ, zero, suc, ◌+◌, max, Bool, true, false, ◌&&◌, List, [], ◌∷◌, ◌++◌, length, Option, Some, None, option_map, codes, decimal, bytes_eq}
 use Rattle.wl_expr.specs.Tree.{Tree, Trees, num, text, symbol, node, none, more}
 use Rattle.wl_expr.specs.Same.{is_name_among}
 use Rattle.wl_expr.specs.Words.{Name, sequence_of}
@@ -7,21 +7,11 @@ use Rattle.wl_shape.specs.Scopes.{parameters}
 
 -- what stands for each name
 abbrev pub Values : Type 0
-Values = List (Name × Tree)
-
-abbrev pub value_of : Name → Values → Option Tree
-value_of x [] = None
-value_of x (p ∷ ps) = elim (bytes_eq x p.0) [ true ↦ Some p.1 | false ↦ value_of x ps ]
+Values = Name → Option Tree
 
 -- the values of other names
 abbrev pub without_names : List Name → Values → Values
-without_names xs [] = []
-without_names xs (p ∷ ps) = elim (is_name_among p.0 xs) [ true ↦ without_names xs ps | false ↦ p ∷ without_names xs ps ]
-
--- of equal names the first counts
-abbrev pub firsts : Values → Values
-firsts [] = []
-firsts (p ∷ ps) = p ∷ without_names (p.0 ∷ []) (firsts ps)
+without_names xs vs x = elim (is_name_among x xs) [ true ↦ None | false ↦ vs x ]
 
 -- all names in a tree
 abbrev mutual
@@ -53,9 +43,8 @@ abbrev mutual
 
   -- of the two elements of a scope
   pub reached_scope : List Name → Trees → List Name
-  reached_scope xs none = []
-  reached_scope xs (more t none) = reached t
-  reached_scope xs (more t (more u us)) = reached_first t ++ except_names xs (reached u)
+  reached_scope xs (more t (more u none)) = reached_first t ++ except_names xs (reached u)
+  reached_scope xs ts = []
 
   -- of the parameters `x`, `{x, y}` or `{x, y = v}`: the initial values
   pub reached_first : Tree → List Name
@@ -72,32 +61,42 @@ abbrev mutual
 
 -- ---- renaming of captured parameters
 
--- all names in the values that arrive in a body which reaches these names
+abbrev pub value_names : Option Tree → List Name
+value_names None = []
+value_names (Some t) = names t
+
+-- all names in what stands for these names, which arrive in a body that reaches them
 abbrev pub arriving : List Name → Values → List Name
-arriving xs [] = []
-arriving xs (p ∷ ps) = elim (is_name_among p.0 xs) [ true ↦ names p.1 ++ arriving xs ps | false ↦ arriving xs ps ]
+arriving [] vs = []
+arriving (x ∷ xs) vs = value_names (vs x) ++ arriving xs vs
 
--- `$` appended until the name isn't taken; n is one more than the number of those that are
-abbrev pub fresh : ℕ → Name → List Name → Name
-fresh zero x taken = x
-fresh (suc n) x taken = elim (is_name_among x taken) [ true ↦ fresh n (x ++ codes "$") taken | false ↦ x ]
+abbrev pub longest : List Name → ℕ
+longest [] = 0
+longest (x ∷ xs) = max (length x) (longest xs)
 
--- the new names of those parameters that arriving names would be captured by
-abbrev pub renamings : List Name → List Name → List Name → List (Name × Name)
-renamings arrived taken [] = []
-renamings arrived taken (x ∷ xs) =
-    elim (is_name_among x arrived) [
-      | true ↦ (x, fresh (length taken + 1) (x ++ codes "$") taken) ∷ renamings arrived taken xs
-      | false ↦ renamings arrived taken xs
-    ]
+abbrev pub marked : Name → Name
+marked x = x ++ codes "$"
 
-abbrev pub new_name : List (Name × Name) → Name → Name
-new_name [] x = x
-new_name (p ∷ ps) x = elim (bytes_eq x p.0) [ true ↦ p.1 | false ↦ new_name ps x ]
+-- `$` appended until the name isn't taken, n times at most
+abbrev pub fresh : ℕ → List Name → Name → Name
+fresh zero taken x = x
+fresh (suc n) taken x = elim (is_name_among x taken) [ true ↦ fresh n taken (marked x) | false ↦ x ]
 
--- what a scope does to the values that come in: which parameters are renamed, and what stands for which name inside
+-- no name is taken that is longer than the longest of those that are
+abbrev pub new_name : List Name → Name → Name
+new_name taken x = fresh (longest taken + 1) taken (marked x)
+
+-- what stands for those parameters that arriving names would be captured by: their new names
+abbrev pub renamings : List Name → List Name → List Name → Values
+renamings arrived taken xs x = elim (is_name_among x xs && is_name_among x arrived) [ true ↦ Some (symbol (new_name taken x)) | false ↦ None ]
+
+abbrev pub or_else : Option Tree → Option Tree → Option Tree
+or_else None o = o
+or_else (Some t) o = Some t
+
+-- what a scope does to the values that come in: the new names of its parameters, and what stands for which name inside
 pub record Inside : Type 0 where
-  pub renamed : List (Name × Name)
+  pub renamed : Values
   pub inner : Values
 
 abbrev pub inside_of : List Name → Values → Tree → Inside
@@ -105,11 +104,11 @@ inside_of xs vs body =
     let outer = without_names xs vs in
     let arrived = arriving (reached body) outer in
     let rs = renamings arrived (arrived ++ names body) xs in
-    record { renamed = rs; inner = map (λ p. (p.0, symbol p.1)) rs ++ outer }
+    record { renamed = rs; inner = λ x. or_else (rs x) (outer x) }
 
 abbrev pub inside : List Name → Values → Trees → Inside
-inside xs vs (more first (more body ts)) = inside_of xs vs body
-inside xs vs ts = record { renamed = []; inner = vs }
+inside xs vs (more first (more body none)) = inside_of xs vs body
+inside xs vs ts = record { renamed = λ x. None; inner = vs }
 
 -- ---- filling
 
@@ -117,11 +116,16 @@ abbrev pub filled_symbol : Name → Option Tree → Tree
 filled_symbol x None = symbol x
 filled_symbol x (Some t) = t
 
+-- a parameter: its new name, where it has one
+abbrev pub parameter : Values → Tree → Tree
+parameter rs (symbol x) = filled_symbol x (rs x)
+parameter rs t = t
+
 abbrev mutual
   pub fill : Values → Tree → Tree
   fill vs (num n) = num n
   fill vs (text s) = text s
-  fill vs (symbol x) = filled_symbol x (value_of x vs)
+  fill vs (symbol x) = filled_symbol x (vs x)
   fill vs (node h ts) = elim (parameters h ts) [ None ↦ node (fill vs h) (fill_all vs ts) | Some xs ↦ node (fill vs h) (fill_scope vs (inside xs vs ts) ts) ]
 
   pub fill_all : Values → Trees → Trees
@@ -130,28 +134,24 @@ abbrev mutual
 
   -- the two elements of a scope
   pub fill_scope : Values → Inside → Trees → Trees
-  fill_scope vs i none = none
-  fill_scope vs i (more t none) = more (fill vs t) none
-  fill_scope vs i (more t (more u us)) = more (fill_first vs i.renamed t) (more (fill i.inner u) (fill_all vs us))
+  fill_scope vs i (more t (more u none)) = more (fill_first vs i.renamed t) (more (fill i.inner u) none)
+  fill_scope vs i ts = ts
 
   -- the parameters `x`, `{x, y}` or `{x, y = v}`: initial values are outside the scope
-  pub fill_first : Values → List (Name × Name) → Tree → Tree
+  pub fill_first : Values → Values → Tree → Tree
   fill_first vs rs (num n) = num n
   fill_first vs rs (text s) = text s
-  fill_first vs rs (symbol x) = symbol (new_name rs x)
+  fill_first vs rs (symbol x) = filled_symbol x (rs x)
   fill_first vs rs (node h ts) = node (fill vs h) (fill_formals vs rs ts)
 
-  pub fill_formals : Values → List (Name × Name) → Trees → Trees
+  pub fill_formals : Values → Values → Trees → Trees
   fill_formals vs rs none = none
   fill_formals vs rs (more t ts) = more (fill_formal vs rs t) (fill_formals vs rs ts)
 
-  pub fill_formal : Values → List (Name × Name) → Tree → Tree
-  fill_formal vs rs (num n) = num n
-  fill_formal vs rs (text s) = text s
-  fill_formal vs rs (symbol x) = symbol (new_name rs x)
-  fill_formal vs rs (node h none) = node (fill vs h) none
-  fill_formal vs rs (node h (more x none)) = node (fill vs h) (more (fill vs x) none)
-  fill_formal vs rs (node h (more x (more v ts))) = node (fill vs h) (more (fill_first vs rs x) (more (fill vs v) (fill_all vs ts)))
+  pub fill_formal : Values → Values → Tree → Tree
+  fill_formal vs rs (symbol x) = filled_symbol x (rs x)
+  fill_formal vs rs (node h (more x (more v none))) = node (fill vs h) (more (parameter rs x) (more (fill vs v) none))
+  fill_formal vs rs t = t
 
 -- ---- the calls
 
@@ -160,27 +160,31 @@ abbrev pub run_tree : List Tree → Tree
 run_tree (t ∷ []) = t
 run_tree ts = sequence_of ts
 
--- a name with the trees that are bound to it
-abbrev pub Run : Type 0
-Run = Name × List Tree
+-- the runs that names are bound to
+abbrev pub Runs : Type 0
+Runs = Name → Option (List Tree)
 
-abbrev pub binding : List Run → Values
-binding rs = map (λ r. (r.0, run_tree r.1)) rs
+abbrev pub binding : Runs → Values
+binding rs x = option_map run_tree (rs x)
 
-abbrev pub fill_binding : Tree → List Run → Tree
-fill_binding body rs = fill (firsts (binding rs)) body
+abbrev pub fill_binding : Tree → Runs → Tree
+fill_binding body rs = fill (binding rs) body
 
-abbrev pub paired : List Name → List Tree → Values
-paired [] ts = []
-paired (x ∷ xs) [] = []
-paired (x ∷ xs) (t ∷ ts) = (x, t) ∷ paired xs ts
+-- of equal names the first counts
+abbrev pub given : List Name → List Tree → Values
+given [] ts x = None
+given (y ∷ ys) [] x = None
+given (y ∷ ys) (t ∷ ts) x = elim (bytes_eq x y) [ true ↦ Some t | false ↦ given ys ts x ]
 
 abbrev pub replace : Tree → List Name → List Tree → Tree
-replace body xs ts = fill (firsts (paired xs ts)) body
+replace body xs ts = fill (given xs ts) body
 
 -- the name of a local variable of the n-th Module
 abbrev pub numbered : ℕ → Name → Name
 numbered n x = x ++ (codes "$" ++ decimal n)
 
+abbrev pub numbered_names : List Name → ℕ → Values
+numbered_names xs n x = elim (is_name_among x xs) [ true ↦ Some (symbol (numbered n x)) | false ↦ None ]
+
 abbrev pub rename : Tree → List Name → ℕ → Tree
-rename body xs n = fill (map (λ x. (x, symbol (numbered n x))) xs) body
+rename body xs n = fill (numbered_names xs n) body

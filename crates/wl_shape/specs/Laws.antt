@@ -1,11 +1,12 @@
 -- What a few nodes are shaped to, and what stands in a few bodies where names are filled.
-use Rattle.std.specs.Prelude.{◌≡◌, [], ◌∷◌, codes}
+use Rattle.std.specs.Prelude.{◌≡◌, List, [], ◌∷◌, codes, bytes_eq}
+use Rattle.std.specs.Map.{lookup}
 use Rattle.wl_expr.specs.Tree.{Tree, symbol}
-use Rattle.wl_expr.specs.Words.{form, applied, natural, list_of, sequence_of}
+use Rattle.wl_expr.specs.Words.{Name, form, applied, natural, list_of, sequence_of}
 use Rattle.wl_rules.specs.Attributes.{AttributeSet, no_attributes, with_all}
 use Rattle.wl_rules.specs.declared.attribute.Attribute.TheVariants.{Flat, Listable, Orderless, SequenceHold}
 use Rattle.wl_shape.specs.Shape.{rebuilt, threaded, uneven, shape}
-use Rattle.wl_shape.specs.Fill.{fill, fill_binding, replace, rename}
+use Rattle.wl_shape.specs.Fill.{Values, Runs, fill, fill_binding, given, replace, rename}
 
 abbrev pub a : Tree
 a = symbol (codes "a")
@@ -70,29 +71,37 @@ function_of p t = form (codes "Function") (p ∷ t ∷ [])
 abbrev pub set_to : Tree → Tree → Tree
 set_to p v = form (codes "Set") (p ∷ v ∷ [])
 
+-- the tree for x
+abbrev pub x_to : Tree → Values
+x_to t = given (codes "x" ∷ []) (t ∷ [])
+
 -- `Function[y, x + y]` and `Function[{y$, y}, x + y]`, with y for x; a parameter named x shadows it, and one that captures nothing stays
 abbrev pub WorkedCaptures : Type 0
 WorkedCaptures =
-    (fill ((codes "x", y) ∷ []) (function_of y (sum_of x y)) ≡ function_of y' (sum_of y y'))
-    × (fill ((codes "x", y) ∷ []) (function_of (list_of (y' ∷ y ∷ [])) (sum_of x y)) ≡ function_of (list_of (y' ∷ y' ∷ [])) (sum_of y y'))
-    × (fill ((codes "x", y) ∷ []) (function_of x (sum_of x y)) ≡ function_of x (sum_of x y))
-    × (fill ((codes "x", a) ∷ []) (function_of y (sum_of x y)) ≡ function_of y (sum_of a y))
-    × (fill ((codes "x", y) ∷ []) (function_of y y) ≡ function_of y y)
-    × (fill ((codes "x", sum_of y y') ∷ []) (function_of y (sum_of x y)) ≡ function_of (symbol (codes "y$$")) (sum_of (sum_of y y') (symbol (codes "y$$"))))
+    (fill (x_to y) (function_of y (sum_of x y)) ≡ function_of y' (sum_of y y'))
+    × (fill (x_to y) (function_of (list_of (y' ∷ y ∷ [])) (sum_of x y)) ≡ function_of (list_of (y' ∷ y' ∷ [])) (sum_of y y'))
+    × (fill (x_to y) (function_of x (sum_of x y)) ≡ function_of x (sum_of x y))
+    × (fill (x_to a) (function_of y (sum_of x y)) ≡ function_of y (sum_of a y))
+    × (fill (x_to y) (function_of y y) ≡ function_of y y)
+    × (fill (x_to (sum_of y y')) (function_of y (sum_of x y)) ≡ function_of (symbol (codes "y$$")) (sum_of (sum_of y y') (symbol (codes "y$$"))))
 
 -- `Module[{x = x}, x]`, `With[{y = x}, x + y]`, `With[{x}, x]` and `Block[{x = 1}, x]`: initial values lie outside, a With without values and a Block are no scopes
 abbrev pub WorkedScopes : Type 0
 WorkedScopes =
-    (fill ((codes "x", a) ∷ []) (form (codes "Module") (list_of (set_to x x ∷ []) ∷ x ∷ [])) ≡ form (codes "Module") (list_of (set_to x a ∷ []) ∷ x ∷ []))
-    × (fill ((codes "x", y) ∷ []) (form (codes "With") (list_of (set_to y x ∷ []) ∷ sum_of x y ∷ [])) ≡ form (codes "With") (list_of (set_to y' y ∷ []) ∷ sum_of y y' ∷ []))
-    × (fill ((codes "x", a) ∷ []) (form (codes "With") (list_of (x ∷ []) ∷ x ∷ [])) ≡ form (codes "With") (list_of (a ∷ []) ∷ a ∷ []))
-    × (fill ((codes "x", natural 5) ∷ []) (form (codes "Block") (list_of (set_to x (natural 1) ∷ []) ∷ x ∷ [])) ≡ form (codes "Block") (list_of (set_to (natural 5) (natural 1) ∷ []) ∷ natural 5 ∷ []))
+    (fill (x_to a) (form (codes "Module") (list_of (set_to x x ∷ []) ∷ x ∷ [])) ≡ form (codes "Module") (list_of (set_to x a ∷ []) ∷ x ∷ []))
+    × (fill (x_to y) (form (codes "With") (list_of (set_to y x ∷ []) ∷ sum_of x y ∷ [])) ≡ form (codes "With") (list_of (set_to y' y ∷ []) ∷ sum_of y y' ∷ []))
+    × (fill (x_to a) (form (codes "With") (list_of (x ∷ []) ∷ x ∷ [])) ≡ form (codes "With") (list_of (a ∷ []) ∷ a ∷ []))
+    × (fill (x_to (natural 5)) (form (codes "Block") (list_of (set_to x (natural 1) ∷ []) ∷ x ∷ [])) ≡ form (codes "Block") (list_of (set_to (natural 5) (natural 1) ∷ []) ∷ natural 5 ∷ []))
+
+-- what names are bound to
+abbrev pub runs : List (Name × List Tree) → Runs
+runs rs z = lookup (bytes_eq z) rs
 
 -- runs of no, one and two elements; of equal names the first counts, and only its value may capture; the names of the third Module
 abbrev pub WorkedReplacements : Type 0
 WorkedReplacements =
-    (fill_binding (applied f (x ∷ y ∷ [])) ((codes "x", []) ∷ (codes "y", a ∷ []) ∷ []) ≡ applied f (sequence_of [] ∷ a ∷ []))
-    × (fill_binding (applied x (y ∷ [])) ((codes "x", a ∷ b ∷ []) ∷ []) ≡ applied (sequence_of (a ∷ b ∷ [])) (y ∷ []))
+    (fill_binding (applied f (x ∷ y ∷ [])) (runs ((codes "x", []) ∷ (codes "y", a ∷ []) ∷ [])) ≡ applied f (sequence_of [] ∷ a ∷ []))
+    × (fill_binding (applied x (y ∷ [])) (runs ((codes "x", a ∷ b ∷ []) ∷ [])) ≡ applied (sequence_of (a ∷ b ∷ [])) (y ∷ []))
     × (replace (sum_of x y) (codes "x" ∷ codes "x" ∷ []) (a ∷ b ∷ []) ≡ sum_of a y)
     × (replace (function_of y (sum_of x y)) (codes "x" ∷ codes "x" ∷ []) (a ∷ y ∷ []) ≡ function_of y (sum_of a y))
     × (rename (sum_of x (function_of x x)) (codes "x" ∷ []) 3 ≡ sum_of (symbol (codes "x$3")) (function_of x x))

@@ -10,3 +10,9 @@ pub mod Elements
 -- What serves the proofs.
 pub mod Locals
 pub mod Renewed
+pub mod Standing
+pub mod Names
+pub mod Held
+pub mod Entering
+pub mod Walks
+pub mod Given

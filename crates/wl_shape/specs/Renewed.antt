@@ -2,8 +2,8 @@
 use Rattle.std.specs.Prelude.{◌≡◌, List, Option, Result, Err, IfOk, option_map, unwrap_or}
 use Rattle.std.specs.declared.alloc.Global.{Global}
 use Rattle.std.specs.declared.vec.Vec.{Vec}
-use Rattle.wl_expr.specs.Stamped.{Stamped, plain}
-use Rattle.wl_expr.specs.Tree.{Tree, IsWithinLimits}
+use Rattle.wl_expr.specs.Stamped.{Stamped, plain, plains, from_list}
+use Rattle.wl_expr.specs.Tree.{Tree, Trees, IsWithinLimits, AreSmall}
 use Rattle.wl_expr.specs.declared.fault.ExprFault.{ExprFault}
 use Rattle.wl_expr.specs.declared.fault.ExprFault.TheVariants.{Large}
 
@@ -15,3 +15,8 @@ elements_or o ts = unwrap_or (option_map (λ v. v.items) o) ts
 pub record IsRenewed (t u : Tree) (r : Result (Option Stamped) ExprFault) : Type 0 where
   pub tree : IfOk r (λ o. unwrap_or (option_map plain o) t ≡ u)
   pub large : r ≡ Err Large → ¬ IsWithinLimits u
+
+-- the elements ts with what was made of them are us, and Large comes only where these don't fit
+pub record AreRenewed (ts : List Stamped) (us : Trees) (r : Result (Option (Vec Stamped Global)) ExprFault) : Type 0 where
+  pub elements : IfOk r (λ o. plains (from_list (elements_or o ts)) ≡ us)
+  pub large : r ≡ Err Large → ¬ AreSmall us

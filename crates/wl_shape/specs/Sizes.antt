@@ -1,10 +1,10 @@
 -- The size of what is shaped and of what is filled.
-use Rattle.std.specs.Prelude.{ℕ, ◌≤◌, List, [], ◌∷◌}
+use Rattle.std.specs.Prelude.{ℕ, ◌≤◌, List}
 use Rattle.wl_expr.specs.Tree.{Tree, from_list, weight, weights, depth, depths}
-use Rattle.wl_expr.specs.Words.{applied}
+use Rattle.wl_expr.specs.Words.{Name, applied}
 use Rattle.wl_rules.specs.Attributes.{AttributeSet}
 use Rattle.wl_shape.specs.Shape.{Shaped, rebuilt, threaded, uneven, shape}
-use Rattle.wl_shape.specs.Fill.{Values, fill}
+use Rattle.wl_shape.specs.Fill.{Values, filled_symbol, fill}
 
 abbrev pub weight_of : List Tree → ℕ
 weight_of ts = weights (from_list ts)
@@ -29,8 +29,7 @@ ShapeIsNoLarger = (a : AttributeSet) (h : Tree) (es : List Tree) → IsNoLarger 
 
 -- each value has depth 1
 abbrev pub AreLeaves : Values → Type 0
-AreLeaves [] = Unit {0}
-AreLeaves (p ∷ ps) = (depth p.1 ≤ 1) × AreLeaves ps
+AreLeaves vs = (x : Name) → depth (filled_symbol x (vs x)) ≤ 1
 
 -- filling with leaves makes no tree deeper
 abbrev pub FillIsNoDeeper : Type 0

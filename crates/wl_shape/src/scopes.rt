@@ -6,6 +6,7 @@ ghost use Rattle.wl_shape.specs.Answers.{trees};
 ghost use Rattle.wl_shape.specs.Elements.{is_name};
 ghost use Rattle.wl_shape.specs.Locals.{local_name, needs_of, symbols_in, two_of};
 ghost use Rattle.wl_shape.specs.Scopes.{function_names, locals, names_in, parameters};
+ghost use Rattle.wl_shape.specs.Walks.{has_scope, have_scopes, may_be_scope};
 
 use crate::element::{is_symbol, list_elements};
 use std::alloc::Global;
@@ -43,7 +44,7 @@ fn are_names(elements: &[Expr]) -> bool
 
 /// The two elements, where there are two.
 #[tactic(auto, using(crate::proofs::Parameters::these_two, crate::proofs::Parameters::not_two))]
-fn two(args: &[Expr]) -> Option<(&Expr, &Expr)>
+pub(crate) fn two(args: &[Expr]) -> Option<(&Expr, &Expr)>
     ensures { option_map (λ p. (plain p.0.now, plain p.1.now)) result ≡ two_of (plains (from_list args.now)) }
 {
     if args.len() != 2 {
@@ -123,4 +124,38 @@ pub(crate) fn parameters(
         "With" => local_names(alloc, Needs::Values, first),
         _ => Ok(None),
     }
+}
+
+/// Whether the node of this head and these elements may be a scope.
+fn may_be_scope(head: &Expr, args: &[Expr]) -> bool
+    ensures { result ≡ may_be_scope (plain head.now) (plains (from_list args.now)) }
+{
+    two(args).is_some()
+        && (is_symbol(head, "Function") || is_symbol(head, "Module") || is_symbol(head, "With"))
+}
+
+/// Whether a node that may be a scope stands in the expression.
+#[cycle(scopes)]
+pub(crate) fn has_scope(e: &Expr) -> bool
+    ensures { result ≡ has_scope (plain e.now) }
+{
+    match e.view() {
+        Look::Node(head, args) => {
+            may_be_scope(head, args) || has_scope(head) || have_scopes(args)
+        }
+        _ => false,
+    }
+}
+
+#[cycle(scopes)]
+#[tactic(auto, using(wl_expr::proofs::Parts::depth_arg))]
+fn have_scopes(args: &[Expr]) -> bool
+    ensures { result ≡ have_scopes (plains (from_list args.now)) }
+{
+    for arg in args {
+        if has_scope(arg) {
+            return true;
+        }
+    }
+    false
 }
