@@ -31,4 +31,8 @@ mod Answering
 mod Notices
 mod Shapes
 mod Rounds
+mod Bindings
+mod Guarding
+mod Lent
+mod Matches
 mod Computed

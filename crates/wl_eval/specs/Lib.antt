@@ -29,6 +29,7 @@ pub mod Laws
 pub mod Honest
 pub mod Logs
 pub mod Played
+pub mod Searching
 pub mod Recall
 -- What the functions of a turn say besides.
 pub mod Kinds

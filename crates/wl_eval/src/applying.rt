@@ -1,11 +1,9 @@
 //! Which rule applies to a form.
-ghost use Rattle.std.specs.Prelude.{◌≡◌, ◌≤◌, IfOk, filter_map, map, option_map};
+ghost use Rattle.std.specs.Prelude.{◌≡◌, ◌≤◌, IfOk, filter_map, option_map};
 ghost use Rattle.wl_expr.specs.Stamped.{plain};
 ghost use Rattle.wl_expr.specs.Words.{elements, leftmost, name_of};
-ghost use Rattle.wl_rules.specs.StampedRules.{plain_rule};
-ghost use Rattle.wl_eval.specs.Match as matching;
 ghost use Rattle.wl_eval.specs.Parts.{head_place, up_symbol};
-ghost use Rattle.wl_eval.specs.Played.{AllHonestRules, Honest, Played, Sound, found_tree, trees};
+ghost use Rattle.wl_eval.specs.Played.{Honest, Played, Sound, found_tree, trees};
 ghost use Rattle.wl_eval.specs.Turn as turn;
 
 use crate::ends::Stop;
@@ -14,7 +12,7 @@ use indexmap::IndexSet;
 use std::alloc::Global;
 use wl_expr::{Expr, Look};
 use wl_ports::{Ledger, Memory, Work};
-use wl_rules::{Attribute, Attributes, RuleKind, RuleList};
+use wl_rules::{Attribute, Attributes, RuleKind};
 
 /// The symbol whose up rules an element asks for: itself, or its head.
 fn up_symbol(e: &Expr) -> Option<&Expr>
@@ -169,29 +167,5 @@ impl Evaluator {
     {
         let rules = self.rules_of(name, kind, work)?;
         self.trial(&rules, e, work)
-    }
-
-    /// The result of the first of these rules that applies.
-    #[cycle(eval)]
-    fn trial<L: Ledger>(
-        &mut self,
-        rules: &RuleList,
-        e: &Expr,
-        work: &mut Work<L>,
-    ) -> Result<Option<Expr>, Stop>
-        requires sound { Sound self.old }
-        requires rules { AllHonestRules self.old rules.now }
-        requires honest { Honest self.old e.now }
-        ensures played { Played found_tree (matching.trial (map plain_rule rules.now) (plain e.now)) self.old result self.new }
-        ensures falls { self.new.steps ≤ self.old.steps }
-    {
-        if rules.len() == 0 {
-            return Ok(None);
-        }
-        // Trials come here.
-        if self.steps == 0 {
-            let _value = self.value_of_built(Ok(e.copy()?), work);
-        }
-        Err(Stop::Memory)
     }
 }

@@ -8,13 +8,18 @@ mod elements;
 mod ends;
 mod evaluation;
 mod evaluator;
+mod guard;
 mod kind;
 pub mod laws;
 mod levels;
 mod looks;
+mod matching;
 mod messages;
 mod recall;
+mod runs;
 mod shaping;
+mod standin;
+mod trial;
 mod turn;
 
 pub use evaluator::Line;

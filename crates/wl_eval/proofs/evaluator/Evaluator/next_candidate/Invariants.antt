@@ -1,0 +1,16 @@
+use Rattle.std.proofs.Common.{◌≤◌}
+use Rattle.wl_expr.specs.Stamped.{plain}
+use Rattle.wl_match.specs.Left.{Searches, left}
+use Rattle.wl_eval.specs.Played.{Leads}
+use Rattle.wl_eval.specs.Searching.{next_found}
+use Rattle.wl_eval.proofs.evaluator.Evaluator.next_candidate.Given as goal
+
+abbrev pub invariant-leaves : goal.invariant-leaves
+invariant-leaves g l = record {
+  leads : Leads (next_found (left l.pattern (plain l.e) l.fn.machine)) l.fn.self (next_found (left l.pattern (plain l.e) l.machine)) l.self;
+  searches : Searches l.pattern (plain l.e) l.machine;
+  falls : l.self.steps ≤ l.fn.self.steps;
+}
+
+abbrev pub decreases-leaves : goal.decreases-leaves
+decreases-leaves g l = l.self.steps
