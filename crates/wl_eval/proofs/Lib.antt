@@ -26,3 +26,6 @@ mod Beginning
 mod Fitting
 mod Flagging
 mod Computed
+mod RowParts
+mod Symbols
+mod EntryRowParts

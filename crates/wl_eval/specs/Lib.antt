@@ -30,6 +30,7 @@ pub mod Honest
 pub mod Logs
 pub mod Played
 pub mod Recall
+pub mod Operands
 -- Sessions that are computed.
 pub mod Cells
 pub mod WorkedCells

@@ -3,11 +3,14 @@
 
 mod effects;
 mod ends;
+mod entry_rows;
 mod evaluator;
 pub mod laws;
 mod levels;
 mod looks;
 mod messages;
+mod operands;
 mod recall;
+mod refusals;
 
 pub use evaluator::Line;
