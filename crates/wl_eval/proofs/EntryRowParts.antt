@@ -1,5 +1,5 @@
 -- How the rows that clear entries and change attributes play.
-use Rattle.std.proofs.Common.{◌≡◌, ◌≢◌, Bool, true, false, List, [], ◌∷◌, Option, Some, None, is_some, Result, Ok, Err, map, refl, sym, ap, ap₂, ◌∙◌, subst, true≢false}
+use Rattle.std.proofs.Common.{◌≡◌, ◌≢◌, Bool, true, false, List, [], ◌∷◌, Option, Some, None, is_some, Ok, map, refl, sym, ap, ap₂, ◌∙◌, subst, true≢false}
 use Rattle.std.specs.Prelude.{codes}
 use Rattle.wl_expr.specs.Tree.{Tree, num, text, symbol, node}
 use Rattle.wl_expr.specs.Words.{Name, is_list, elements, list_of, names_of, null_symbol}
@@ -7,8 +7,7 @@ use Rattle.wl_rules.specs.Attributes.{AttributeSet, put, names_of_attributes}
 use Rattle.wl_rules.specs.Stored.{definitions}
 use Rattle.wl_rules.specs.declared.attribute.Attribute.{Attribute}
 use Rattle.wl_rules.specs.declared.attribute.Attribute.TheVariants.{Protected}
-use Rattle.wl_eval.specs.Prog as prog
-use Rattle.wl_eval.specs.Prog.{Prog, done, ◌>>=◌, clear, set_attributes, entry_of, doing, message, is_protected, unchanged, result}
+use Rattle.wl_eval.specs.Prog.{Prog, ◌>>=◌, clear, set_attributes, entry_of, doing, message, is_protected, unchanged, result}
 use Rattle.wl_eval.specs.Definitions.{limset}
 use Rattle.wl_eval.specs.LeftSides.{is_limit}
 use Rattle.wl_eval.specs.EntryRows as rows

@@ -29,3 +29,4 @@ mod Computed
 mod RowParts
 mod Symbols
 mod EntryRowParts
+mod HistoryRowParts

@@ -1,5 +1,5 @@
 -- How rows that evaluate nothing play.
-use Rattle.std.proofs.Common.{◌≡◌, ◌≢◌, Bool, true, false, List, [], ◌∷◌, ◌++◌, map, Option, Some, None, option_map, is_some, Result, Ok, Err, IfOk, ◌↔◌, refl, sym, ap, ◌∙◌, subst, arith, true≢false}
+use Rattle.std.proofs.Common.{◌≡◌, true, false, List, [], ◌∷◌, map, Option, Some, None, Result, Ok, Err, IfOk, ◌↔◌, refl, sym, ap, ◌∙◌, subst}
 use Rattle.std.proofs.lemmas.List.Elements.{All-nil, All-cons}
 use Rattle.std.specs.List.{All}
 use Rattle.std.specs.Prelude.{codes}
@@ -7,18 +7,17 @@ use Rattle.wl_rules.specs.Stored.{Stored}
 use Rattle.wl_eval.specs.Honest.{HonestIn}
 use Rattle.wl_expr.specs.Stamped as stamped
 use Rattle.wl_expr.specs.Stamped.{Stamped, plain, plains, from_list}
-use Rattle.wl_expr.specs.Tree.{Tree, IsWithinLimits, num, text, symbol, node}
+use Rattle.wl_expr.specs.Tree.{Tree, IsWithinLimits, node}
 use Rattle.wl_expr.specs.Words.{Name, applied, fits, null_symbol}
 use Rattle.wl_expr.specs.declared.fault.ExprFault.{ExprFault}
 use Rattle.wl_expr.specs.declared.fault.ExprFault.TheVariants as fault
-use Rattle.wl_expr.proofs.Small.{fits_decides}
-use Rattle.wl_eval.specs.Prog.{Prog, done, ◌>>=◌, sized, result}
+use Rattle.wl_eval.specs.Prog.{Prog, done, sized}
 use Rattle.wl_eval.specs.BuiltIn.{sized_result}
 use Rattle.wl_eval.specs.Operands.{sized_row}
-use Rattle.wl_eval.specs.Played.{Plays, Played, Makes, Honest, HonestMaybe, found_tree, trees}
+use Rattle.wl_eval.specs.Played.{Plays, Played, Makes, Honest, found_tree, trees}
 use Rattle.wl_eval.specs.declared.evaluator.Evaluator.{Evaluator}
 use Rattle.wl_eval.specs.declared.ends.Stop.{Stop}
-use Rattle.wl_eval.proofs.Playing.{plays_bind, plays_done, plays_done_is}
+use Rattle.wl_eval.proofs.Playing.{plays_bind, plays_done}
 use Rattle.wl_eval.proofs.Rows.{played_bind}
 use Rattle.wl_eval.proofs.Values.{plains_trees, built_honest}
 use Rattle.wl_eval.proofs.Fitting.{plays_fits, makes}

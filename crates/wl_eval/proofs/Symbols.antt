@@ -1,5 +1,5 @@
 -- Symbols among the elements of rows.
-use Rattle.std.proofs.Common.{Bor, ◌≡◌, ◌≢◌, ◌<◌, ◌≤◌, ◌+◌, ℕ, suc, Bool, true, false, List, [], ◌∷◌, ◌++◌, length, get_or, drop, map, filter_map, drop-cons, add-one, append_assoc, append-nil, Option, Some, None, option_map, is_some, refl, sym, ap, ◌∙◌, subst, arith, true≢false, if◌then◌else◌}
+use Rattle.std.proofs.Common.{Bor, ◌≡◌, ◌≢◌, ◌<◌, ◌≤◌, ◌+◌, ℕ, suc, Bool, true, false, List, [], ◌∷◌, ◌++◌, length, get_or, drop, map, drop-cons, add-one, append_assoc, append-nil, Option, Some, None, is_some, refl, sym, ap, ◌∙◌, arith, true≢false, if◌then◌else◌}
 use Rattle.std.proofs.lemmas.Bool.Decides.{nat_tests}
 use Rattle.std.proofs.lemmas.List.{drop_all}
 use Rattle.wl_expr.specs.Stamped as stamped
@@ -13,8 +13,8 @@ use Rattle.wl_rules.specs.Attributes.{AttributeSet, attribute_named, before, has
 use Rattle.wl_rules.specs.declared.attribute.Attribute.{Attribute}
 use Rattle.wl_eval.specs.EntryRows.{attributes_in}
 use Rattle.wl_eval.proofs.Values.{list_of_plains}
-use Rattle.wl_expr.specs.Tree.{Tree, num, text, symbol, node}
-use Rattle.wl_expr.specs.Words.{Name, is_list, elements, name_of, names_of, with_first}
+use Rattle.wl_expr.specs.Tree.{Tree, Trees, num, text, symbol, node}
+use Rattle.wl_expr.specs.Words.{Name, names_of, with_first}
 use Rattle.wl_eval.specs.Operands.{listed, names_among}
 use Rattle.wl_eval.specs.Played.{trees}
 
@@ -84,6 +84,13 @@ no_symbol p (Num n) e q h x w = let y : num n ≡ symbol x = ap plain q ∙ w in
 no_symbol p (Text s) e q h x w = let y : text s.now ≡ symbol x = ap plain q ∙ w in cc
 no_symbol p (Symbol s) e q h x w = h s refl
 no_symbol p (Node a es) e q h x w = let y : node (plain a.now) (plains (from_list es.now)) ≡ symbol x = ap plain q ∙ w in cc
+
+-- what is no node
+pub no_node : (p : Option Stamp) (l : Look) (e : Stamped) → looked p l ≡ e → ((h : Bor Stamped) (ts : Bor (List Stamped)) → l ≡ Node h ts → ⊥) → (h : Tree) (ts : Trees) → plain e ≡ node h ts → ⊥
+no_node p (Num n) e q m h ts w = let y : num n ≡ node h ts = ap plain q ∙ w in cc
+no_node p (Text s) e q m h ts w = let y : text s.now ≡ node h ts = ap plain q ∙ w in cc
+no_node p (Symbol s) e q m h ts w = let y : symbol s.now ≡ node h ts = ap plain q ∙ w in cc
+no_node p (Node a es) e q m h ts w = m a es refl
 
 -- the elements of a list
 pub listed_are : (x : Name) (h : Tree) (es : List Stamped) (t : Tree) → x ≡ codes "List" → symbol x ≡ h → node h (plains (from_list es)) ≡ t → trees es ≡ listed t

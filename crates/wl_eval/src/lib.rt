@@ -5,6 +5,7 @@ mod effects;
 mod ends;
 mod entry_rows;
 mod evaluator;
+mod history_rows;
 pub mod laws;
 mod levels;
 mod looks;

@@ -1,4 +1,4 @@
-use Rattle.std.proofs.Common.{Bor, Global, Vec, List, Ok, Some, option_map, refl, sym, ap, ◌∙◌}
+use Rattle.std.proofs.Common.{Bor, Global, Vec, Ok, Some, option_map, refl, sym, ap, ◌∙◌}
 use Rattle.wl_expr.specs.Stamped.{Stamped, plain}
 use Rattle.wl_expr.specs.Words.{names_of}
 use Rattle.wl_rules.specs.declared.attribute.Attribute.{Attribute}

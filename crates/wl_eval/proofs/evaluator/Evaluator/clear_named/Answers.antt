@@ -1,4 +1,4 @@
-use Rattle.std.proofs.Common.{◌+◌, Ok, Some, drop, sym, ap, ◌∙◌, subst, arith}
+use Rattle.std.proofs.Common.{◌+◌, Ok, Some, drop, sym, ◌∙◌, subst, arith}
 use Rattle.wl_eval.specs.EntryRows as rows
 use Rattle.wl_eval.specs.Operands.{names_among}
 use Rattle.wl_eval.specs.Played.{Leads, trees}

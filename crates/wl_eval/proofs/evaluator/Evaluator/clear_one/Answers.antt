@@ -1,4 +1,4 @@
-use Rattle.std.proofs.Common.{◌∷◌, [], List, false, Ok, IfOk, sym, ap, ◌∙◌, subst}
+use Rattle.std.proofs.Common.{◌∷◌, [], List, false, Ok, sym, ap, ◌∙◌, subst}
 use Rattle.std.specs.Prelude.{codes}
 use Rattle.wl_expr.specs.Stamped.{Stamped, plain}
 use Rattle.wl_expr.specs.Tree.{Tree}
