@@ -36,3 +36,7 @@ mod Guarding
 mod Lent
 mod Matches
 mod Computed
+mod RowParts
+mod Symbols
+mod EntryRowParts
+mod HistoryRowParts

@@ -34,6 +34,7 @@ pub mod Recall
 -- What the functions of a turn say besides.
 pub mod Kinds
 pub mod Parts
+pub mod Operands
 -- Sessions that are computed.
 pub mod Cells
 pub mod WorkedCells

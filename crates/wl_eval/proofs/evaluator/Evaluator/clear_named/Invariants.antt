@@ -1,0 +1,12 @@
+use Rattle.std.proofs.Common.{◌≡◌, drop}
+use Rattle.wl_eval.specs.EntryRows as rows
+use Rattle.wl_eval.specs.Operands.{names_among}
+use Rattle.wl_eval.specs.Played.{Leads, Sound, trees}
+use Rattle.wl_eval.proofs.evaluator.Evaluator.clear_named.Given as goal
+
+abbrev pub invariant-loop-i : goal.invariant-loop-i
+invariant-loop-i g l = record {
+  leads : Leads (rows.clear_each l.all (names_among (trees l.args))) l.fn.self (rows.clear_each l.all (names_among (trees (drop l.i l.args)))) l.self;
+  sound : Sound l.self;
+  kept : l.self.steps ≡ l.fn.self.steps;
+}

@@ -1,0 +1,117 @@
+//! What rows that evaluate nothing read in their elements, and what they give.
+ghost use Rattle.std.specs.Prelude.{◌≡◌, IfOk, [], ◌∷◌, codes, is_some, option_map};
+ghost use Rattle.wl_expr.specs.Stamped.{from_list, node, plain, symbol};
+ghost use Rattle.wl_expr.specs.Tree.{Tree};
+ghost use Rattle.wl_expr.specs.Words.{is_the, list_of, names_of};
+ghost use Rattle.wl_ports.specs.Name.{IsName};
+ghost use Rattle.wl_eval.specs.BuiltIn.{sized_result};
+ghost use Rattle.wl_eval.specs.Operands.{listed, only_name, two_trees};
+ghost use Rattle.wl_eval.specs.Played.{Honest, Makes, Played, found_tree, trees};
+ghost use Rattle.std.specs.Prelude.{Some, None};
+
+use crate::ends::Stop;
+use crate::evaluator::Evaluator;
+use std::alloc::Global;
+use std::slice;
+use wl_expr::{Expr, ExprFault, Look};
+use wl_ports::{Ledger, Memory, Work};
+
+/// The name of a single symbol.
+pub(crate) fn only_symbol(args: &[Expr]) -> Option<&str>
+    ensures { option_map (λ x. x.now) result ≡ only_name (trees args.now) }
+{
+    let [e] = args else {
+        return None;
+    };
+    match e.view() {
+        Look::Symbol(name) => Some(name),
+        _ => None,
+    }
+}
+
+/// Whether the expression is the symbol of this name.
+pub(crate) fn is_symbol(e: &Expr, name: &str) -> bool
+    ensures { result ≡ is_the name.now (plain e.now) }
+{
+    match e.view() {
+        Look::Symbol(s) => name == s,
+        _ => false,
+    }
+}
+
+/// The two elements of a row.
+pub(crate) fn two(args: &[Expr]) -> Option<(&Expr, &Expr)>
+    ensures { option_map (λ p. (plain p.0.now, plain p.1.now)) result ≡ two_trees (trees args.now) }
+{
+    match args {
+        [a, b] => Some((a, b)),
+        _ => None,
+    }
+}
+
+/// The elements of a list, or the expression alone.
+pub(crate) fn listed(e: &Expr) -> &[Expr]
+    ensures { trees result.now ≡ listed (plain e.now) }
+{
+    let Look::Node(head, args) = e.view() else {
+        return slice::from_ref(e);
+    };
+    match head.view() {
+        Look::Symbol("List") => args,
+        _ => slice::from_ref(e),
+    }
+}
+
+/// Whether all are symbols.
+pub(crate) fn are_symbols(args: &[Expr]) -> bool
+    ensures { result ≡ is_some (names_of (trees args.now)) }
+{
+    for arg in args {
+        let Look::Symbol(_) = arg.view() else {
+            return false;
+        };
+    }
+    true
+}
+
+/// The symbol of a short name.
+pub(crate) fn symbol(alloc: Global, name: &str) -> Result<Expr, Memory>
+    requires { IsName name.now }
+    ensures { IfOk result (λ e. e ≡ symbol None name.now) }
+{
+    match Expr::symbol(alloc, name) {
+        Ok(symbol) => Ok(symbol),
+        Err(_) => Err(Memory),
+    }
+}
+
+pub(crate) fn null(alloc: Global) -> Result<Expr, Memory>
+    ensures { IfOk result (λ e. e ≡ symbol None (codes "Null")) }
+{
+    symbol(alloc, "Null")
+}
+
+/// The list of these elements.
+pub(crate) fn list(alloc: Global, elements: &[Expr]) -> Result<Expr, ExprFault>
+    ensures made { Makes (list_of (trees elements.now)) result }
+    ensures node { IfOk result (λ e. e ≡ node None (symbol None (codes "List")) (from_list elements.now)) }
+{
+    let head = symbol(alloc, "List")?;
+    Expr::node(alloc, &head, elements)
+}
+
+impl Evaluator {
+    /// What a row gives that has made it, with its size tested.
+    pub(crate) fn given<L: Ledger>(
+        &mut self,
+        made: Result<Expr, ExprFault>,
+        work: &mut Work<L>,
+    ) -> Result<Option<Expr>, Stop>
+        requires honest { IfOk made (Honest self.old) }
+        ensures played { (t : Tree) → Makes t made → Played found_tree (sized_result (Some t)) self.old result self.new }
+        ensures kept { self.new.steps ≡ self.old.steps }
+    {
+        let e = self.fitted(made, work)?;
+        Ok(Some(e))
+    }
+}
