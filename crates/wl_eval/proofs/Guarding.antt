@@ -22,6 +22,7 @@ local_not_two k h xs n = cases k (plains (from_list xs)) (λ v w e. n (two_of_pl
     two_of_plains (x ∷ []) v w e = absurd (let q : more (plain x) none ≡ more v (more w none) = e in cc)
     two_of_plains (x ∷ y ∷ []) v w e = refl
     two_of_plains (x ∷ y ∷ z ∷ zs) v w e = absurd (let q : more (plain x) (more (plain y) (more (plain z) (plains (from_list zs)))) ≡ more v (more w none) = e in cc)
+
     cases : (k : Needs) (ts : Trees) → ((v w : Tree) → ts ≡ more v (more w none) → ⊥) → is_some (local_of k (node h ts)) ≡ false
     cases values none n = refl
     cases values (more (num a) none) n = refl

@@ -236,9 +236,9 @@ guarded_by true u = refl
 guarded_by false u = refl
 
 filled_by : (b : Tree) (e : Trail) (c : Bool) → elim c [
-    | false ↦ done None
-    | true ↦ sized (fill_binding b (runs e)) >>= λ _. elim (is_guarded b && is_guarded (fill_binding b (runs e))) [ true ↦ guard (fill_binding b (runs e)) | false ↦ done (Some (fill_binding b (runs e))) ]
-  ] ≡ fill_on b e c
+  | false ↦ done None
+  | true ↦ sized (fill_binding b (runs e)) >>= λ _. elim (is_guarded b && is_guarded (fill_binding b (runs e))) [ true ↦ guard (fill_binding b (runs e)) | false ↦ done (Some (fill_binding b (runs e))) ]
+] ≡ fill_on b e c
 filled_by b e false = refl
 filled_by b e true = λ i. sized (fill_binding b (runs e)) >>= λ _. guarded_by (is_guarded b && is_guarded (fill_binding b (runs e))) (fill_binding b (runs e)) i
 

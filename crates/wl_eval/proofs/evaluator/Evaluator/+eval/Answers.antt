@@ -658,12 +658,19 @@ pub test_holds-each_applies-requires : goal.test_holds-each_applies-requires
 test_holds-each_applies-requires g t c κs within =
     let v = c.args.view.now in
     let k = c.args.self.now in
-    let p = subst (λ z. (ms : List Stamped) → AreFrom ms v → IsTestFrom ms z) c.in-Applies.is c.requires.passed in
-    (search rules,
-      (within,
-        (c.requires.sound,
-          (view_honest k v _ (λ ms m. (p ms m).0) c.requires.view,
-            subst (AllHonest k) (sym c.as_slice.ensures.value) (all_view_honest k v _ (λ ms m. c.in_ok-elements-in-Applies.ensures.passed ms (p ms m).1) c.requires.view)))))
+    let p = subst (λ z. (ms : List Stamped) → AreFrom ms v → IsTestFrom ms z) c.in-Applies.is c.requires.passed in (
+      search rules,
+      (
+        within,
+        (
+          c.requires.sound,
+          (
+            view_honest k v _ (λ ms m. (p ms m).0) c.requires.view,
+            subst (AllHonest k) (sym c.as_slice.ensures.value) (all_view_honest k v _ (λ ms m. c.in_ok-elements-in-Applies.ensures.passed ms (p ms m).1) c.requires.view),
+          ),
+        ),
+      ),
+    )
 
 pub test_holds-is_true-requires : goal.test_holds-is_true-requires
 test_holds-is_true-requires g t c κs within =
@@ -676,12 +683,19 @@ pub test_holds-refuses-requires : goal.test_holds-refuses-requires
 test_holds-refuses-requires g t c κs within =
     let v = c.args.view.now in
     let k = c.args.self.now in
-    let p = subst (λ z. (ms : List Stamped) → AreFrom ms v → IsTestFrom ms z) c.in-Refuses.is c.requires.passed in
-    (search rules,
-      (within,
-        (c.requires.sound,
-          (view_honest k v _ (λ ms m. (p ms m).0) c.requires.view,
-            subst (AllHonest k) (sym c.as_slice-in-Refuses.ensures.value) (all_view_honest k v _ (λ ms m. c.in_ok-elements-in-Refuses.ensures.passed ms (p ms m).1) c.requires.view)))))
+    let p = subst (λ z. (ms : List Stamped) → AreFrom ms v → IsTestFrom ms z) c.in-Refuses.is c.requires.passed in (
+      search rules,
+      (
+        within,
+        (
+          c.requires.sound,
+          (
+            view_honest k v _ (λ ms m. (p ms m).0) c.requires.view,
+            subst (AllHonest k) (sym c.as_slice-in-Refuses.ensures.value) (all_view_honest k v _ (λ ms m. c.in_ok-elements-in-Refuses.ensures.passed ms (p ms m).1) c.requires.view),
+          ),
+        ),
+      ),
+    )
 
 pub test_holds-returns-in_ok-elements-in-Applies-clause-played : goal.test_holds-returns-in_ok-elements-in-Applies-clause-played
 test_holds-returns-in_ok-elements-in-Applies-clause-played g t c n a r l h =
@@ -778,11 +792,16 @@ has_match-tests_hold-requires g t c κs within =
     let b = c.bindings in
     let m = c.next_candidate.new.machine in
     let k1 = c.next_candidate.new.self in
-    let h = c.in_ok-found.ensures.played.0 in
-    (search rules,
-      (within,
-        (h.sound b.invariant.sound,
-          (subst (Honest k1) (sym c.view-view.ensures.subject) (later h _ b.invariant.honest), subst (λ z. AllHonest k1 (kept z)) (sym c.view-view.ensures.pattern) (all_later h _ b.invariant.pattern)))))
+    let h = c.in_ok-found.ensures.played.0 in (
+      search rules,
+      (
+        within,
+        (
+          h.sound b.invariant.sound,
+          (subst (Honest k1) (sym c.view-view.ensures.subject) (later h _ b.invariant.honest), subst (λ z. AllHonest k1 (kept z)) (sym c.view-view.ensures.pattern) (all_later h _ b.invariant.pattern)),
+        ),
+      ),
+    )
 
 pub has_match-returns-in_err-holds-clause-played : goal.has_match-returns-in_err-holds-clause-played
 has_match-returns-in_err-holds-clause-played g t c n l =
@@ -961,12 +980,19 @@ first_filling-filling-requires g t c κs within =
     let b = c.bindings in
     let m = c.next_candidate.new.machine in
     let k1 = c.next_candidate.new.self in
-    let h = c.in_ok-found.ensures.played.0 in
-    (search rules,
-      (within,
-        (h.sound b.invariant.sound,
-          ((subst (Honest k1) (sym c.view-view.ensures.subject) (later h _ b.invariant.honest), subst (λ z. AllHonest k1 (kept z)) (sym c.view-view.ensures.pattern) (all_later h _ b.invariant.pattern)),
-            later h _ b.invariant.body))))
+    let h = c.in_ok-found.ensures.played.0 in (
+      search rules,
+      (
+        within,
+        (
+          h.sound b.invariant.sound,
+          (
+            (subst (Honest k1) (sym c.view-view.ensures.subject) (later h _ b.invariant.honest), subst (λ z. AllHonest k1 (kept z)) (sym c.view-view.ensures.pattern) (all_later h _ b.invariant.pattern)),
+            later h _ b.invariant.body,
+          ),
+        ),
+      ),
+    )
 
 pub first_filling-returns-in_err-filled-clause-played : goal.first_filling-returns-in_err-filled-clause-played
 first_filling-returns-in_err-filled-clause-played g t c =

@@ -55,7 +55,9 @@ returns-in-Candidate-clause-played g c =
     let ss = c.args.pattern.now in
     let t = plain c.args.e.now in
     let l = c.leaves in
-    let m = c.next.new.self in
-    (l.invariant.leads _ _ _ (subst (λ z. Plays z l.self (Ok (Some (binding ss t m, left ss t m))) c.take_step-in-Candidate.new.self false)
-    (sym (next_is (left ss t l.machine) (left ss t m) (binding ss t m) (rw c.in-Candidate.is at c.in_ok-leaf.ensures.leaf)))
-    (plays_bind _ _ c.in_ok-take_step-in-Candidate.ensures.played.0 plays_done)), tt)
+    let m = c.next.new.self in (
+      l.invariant.leads _ _ _ (subst (λ z. Plays z l.self (Ok (Some (binding ss t m, left ss t m))) c.take_step-in-Candidate.new.self false)
+          (sym (next_is (left ss t l.machine) (left ss t m) (binding ss t m) (rw c.in-Candidate.is at c.in_ok-leaf.ensures.leaf)))
+          (plays_bind _ _ c.in_ok-take_step-in-Candidate.ensures.played.0 plays_done)),
+      tt,
+    )
