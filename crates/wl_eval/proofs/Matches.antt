@@ -10,10 +10,11 @@ use Rattle.wl_expr.specs.Stamped as stamped
 use Rattle.wl_expr.specs.Stamped.{Stamped, plain, plains, from_list}
 use Rattle.wl_expr.specs.Tree as tree
 use Rattle.wl_expr.specs.Tree.{Tree, IsWithinLimits}
-use Rattle.wl_expr.specs.Words.{applied, is_true}
+use Rattle.wl_expr.specs.Words.{applied, fits, is_true}
 use Rattle.wl_expr.specs.declared.fault.ExprFault.{ExprFault}
 use Rattle.wl_expr.specs.declared.fault.ExprFault.TheVariants as fault
 use Rattle.wl_expr.proofs.Passing.{all_from}
+use Rattle.wl_expr.proofs.Small.{fits_decides}
 use Rattle.wl_match.specs.declared.flags.Flags.{Flags}
 use Rattle.wl_match.specs.declared.lent.Run.{Run}
 use Rattle.wl_match.specs.declared.machine.Machine.{Machine}
@@ -33,6 +34,7 @@ use Rattle.wl_rules.specs.Entries.{PlainRule}
 use Rattle.wl_rules.specs.StampedRules.{plain_rule}
 use Rattle.wl_rules.specs.Stored.{Stored}
 use Rattle.wl_rules.specs.declared.rule.Rule.{Rule}
+use Rattle.wl_shape.specs.Answers.{IsFilled}
 use Rattle.wl_shape.specs.Fill.{fill_binding}
 use Rattle.wl_eval.specs.Prog.{Prog, done, ◌>>=◌, or_else, sized, value_of_built}
 use Rattle.wl_eval.specs.Honest.{HonestIn}
@@ -150,6 +152,16 @@ each_over f xs i k h = subst (λ z. Plays (each_applies f (trees z)) k (Ok true)
 pub one_makes : (f x : Stamped) (xs : List Stamped) (made : Result Stamped ExprFault) → xs ≡ x ∷ [] → IfOk made (λ e. e ≡ stamped.node None f (from_list xs)) → ((made ≡ Err fault.Large) ↔ ¬ IsWithinLimits (tree.node (plain f) (plains (from_list xs))))
     → Makes (applied (plain f) (plain x ∷ [])) made
 one_makes f x xs made e o l = subst (λ z. Makes (applied (plain f) (trees z)) made) e (node_makes f xs made o l)
+
+-- what was filled
+pub filled_makes : (t : Tree) (made : Result Stamped ExprFault) → IsFilled t made → Makes t made
+filled_makes t (Ok e) h = h.is.0
+filled_makes t (Err fault.Memory) h = tt
+filled_makes t (Err fault.Large) h = cases (fits t) refl
+  where
+    cases : (b : Bool) → fits t ≡ b → fits t ≡ false
+    cases true e = absurd (h.large refl ((fits_decides t).0 e))
+    cases false e = e
 
 -- ---- `Except[p]`
 

@@ -22,7 +22,6 @@ mod recall;
 mod refusals;
 mod runs;
 mod shaping;
-mod standin;
 mod trial;
 mod turn;
 

@@ -17,11 +17,11 @@ use crate::elements::is_symbol;
 use crate::ends::Stop;
 use crate::evaluator::Evaluator;
 use crate::runs::elements_of_run;
-use crate::standin::fill;
 use std::slice;
 use wl_expr::{Expr, ExprFault};
 use wl_match::{Leaf, Machine, Pattern, Test, View};
 use wl_ports::{Ledger, Work};
+use wl_shape::fill;
 
 impl Evaluator {
     /// Goes on to the next binding, where there is one. Each leaf on the way takes a step.

@@ -13,11 +13,11 @@ ghost use Rattle.wl_eval.specs.Searching.{HonestView};
 use crate::ends::Stop;
 use crate::evaluator::Evaluator;
 use crate::guard::is_guarded;
-use crate::standin::fill;
 use wl_expr::Expr;
 use wl_match::{Machine, Pattern, View};
 use wl_ports::{Ledger, Work};
 use wl_rules::{Rule, RuleList};
+use wl_shape::fill;
 
 impl Evaluator {
     /// The result of the first of these rules that applies. Later changes of the entry don't touch them.

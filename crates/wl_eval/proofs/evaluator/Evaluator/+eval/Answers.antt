@@ -45,7 +45,7 @@ use Rattle.wl_rules.specs.StampedRules.{plain_rule}
 use Rattle.wl_shape.specs.Fill.{fill_binding}
 use Rattle.wl_eval.specs.Searching.{HonestView, found_by, next_binding, next_found, passes_within, refuses_within, tests_within, true_of_built}
 use Rattle.wl_eval.proofs.Bindings.{after_binding, after_tests, all_tests, if_so, or_more, passes_is, test_within, tests_is, tests_over, walk_is}
-use Rattle.wl_eval.proofs.Matches.{all_view_honest, asks_applies, asks_holds, asks_refuses, each_at, each_leads, each_over, exit, fill_on, filled_leads, filling_is, filling_leads, found_none, found_some, guard_on, guarded_leads, both_not, held, kept_honest, leads_in, leads_out, made_honest, match_found, match_over, matches_played, next_so, no_test, not_filled, not_held, not_so, one_makes, refuses_one, refuses_other, rule_played, sized_leads, test_found, tests_at, tests_begin, tests_end, trial_at, trial_leads, trial_over, unguarded, view_honest, walk_found, walk_over}
+use Rattle.wl_eval.proofs.Matches.{all_view_honest, asks_applies, asks_holds, asks_refuses, each_at, each_leads, each_over, exit, fill_on, filled_leads, filled_makes, filling_is, filling_leads, found_none, found_some, guard_on, guarded_leads, both_not, held, kept_honest, leads_in, leads_out, made_honest, match_found, match_over, matches_played, next_so, no_test, not_filled, not_held, not_so, one_makes, refuses_one, refuses_other, rule_played, sized_leads, test_found, tests_at, tests_begin, tests_end, trial_at, trial_leads, trial_over, unguarded, view_honest, walk_found, walk_over}
 use Rattle.wl_eval.proofs.evaluator.Evaluator.+eval.Goals as goal
 
 -- ---- which rule applies
@@ -706,7 +706,7 @@ test_holds-returns-in_ok-elements-in-Applies-clause-played g t c n a r l h =
 pub test_holds-returns-in-Holds-clause-played : goal.test_holds-returns-in-Holds-clause-played
 test_holds-returns-in-Holds-clause-played g t c n a r l h =
     asks_holds n (trail_in c.args.view.now) c.in-Holds.condition a r _ _ _ (subst (λ z. Asks z a r) c.in-Holds.is h)
-    (c.is_true.ensures.played (fill_binding (plain c.in-Holds.condition.now) (matching.runs (trail_in c.args.view.now))) c.fill-made.ensures.made)
+    (c.is_true.ensures.played (fill_binding (plain c.in-Holds.condition.now) (matching.runs (trail_in c.args.view.now))) (filled_makes _ _ c.fill-made.ensures.filled))
 
 pub test_holds-returns-in_ok-elements-in-Refuses-clause-played : goal.test_holds-returns-in_ok-elements-in-Refuses-clause-played
 test_holds-returns-in_ok-elements-in-Refuses-clause-played g t c n a r l h =
@@ -882,7 +882,7 @@ filling-returns-in_err-filled-clause-played g t c =
     let u = fill_binding b (matching.runs d) in
     let h = (c.in_ok-holds.ensures.played (2 ^ 64) (omega arith)).0 in
     let on = filled_leads b d _ _ _ _ _ (filling_leads b d k) h c.if-not-holds.false in
-    leads_out (built u) found_tree _ _ _ _ _ _ _ _ _ on refl c.from_residual-in_err-filled.ensures.1 (c.in_err-filled.ensures.played u c.fill-made.ensures.made)
+    leads_out (built u) found_tree _ _ _ _ _ _ _ _ _ on refl c.from_residual-in_err-filled.ensures.1 (c.in_err-filled.ensures.played u (filled_makes _ _ c.fill-made.ensures.filled))
 
 pub filling-returns-then-not-is_guarded-clause-played : goal.filling-returns-then-not-is_guarded-clause-played
 filling-returns-then-not-is_guarded-clause-played g t c =
@@ -892,7 +892,7 @@ filling-returns-then-not-is_guarded-clause-played g t c =
     let u = fill_binding b (matching.runs d) in
     let h = (c.in_ok-holds.ensures.played (2 ^ 64) (omega arith)).0 in
     let on = filled_leads b d _ _ _ _ _ (filling_leads b d k) h c.if-not-holds.false in
-    let s = c.in_ok-filled.ensures.played u c.fill-made.ensures.made in
+    let s = c.in_ok-filled.ensures.played u (filled_makes _ _ c.fill-made.ensures.filled) in
     let sized = sized_leads b u d _ _ _ _ refl on s.0 in
     let honest = later s.0 _ (later h _ (subst (λ z. IfOk z (Honest k)) c.in_ok-filled.ensures.made (made_honest k c.args.view.now c.args.body.now c.fill-made.result c.fill-made.ensures.passed c.requires.view c.requires.body))) in
     unguarded _ u c.in_ok-filled.filled _ _ _ (ap (λ z. z && matching.is_guarded u) (sym c.is_guarded.ensures ∙ c.if-not-is_guarded.true)) s.1 honest sized
@@ -905,7 +905,7 @@ filling-returns-then-not-is_guarded-2-clause-played g t c =
     let u = fill_binding b (matching.runs d) in
     let h = (c.in_ok-holds.ensures.played (2 ^ 64) (omega arith)).0 in
     let on = filled_leads b d _ _ _ _ _ (filling_leads b d k) h c.if-not-holds.false in
-    let s = c.in_ok-filled.ensures.played u c.fill-made.ensures.made in
+    let s = c.in_ok-filled.ensures.played u (filled_makes _ _ c.fill-made.ensures.filled) in
     let sized = sized_leads b u d _ _ _ _ refl on s.0 in
     let honest = later s.0 _ (later h _ (subst (λ z. IfOk z (Honest k)) c.in_ok-filled.ensures.made (made_honest k c.args.view.now c.args.body.now c.fill-made.result c.fill-made.ensures.passed c.requires.view c.requires.body))) in
     unguarded _ u c.in_ok-filled.filled _ _ _ (both_not (matching.is_guarded b) (matching.is_guarded u) (ap matching.is_guarded (sym s.1) ∙ sym c.is_guarded-2.ensures ∙ c.if-not-is_guarded-2.true)) s.1 honest sized
@@ -918,7 +918,7 @@ filling-guard-requires-clause-sound g t c =
     let u = fill_binding b (matching.runs d) in
     let h = (c.in_ok-holds.ensures.played (2 ^ 64) (omega arith)).0 in
     let on = filled_leads b d _ _ _ _ _ (filling_leads b d k) h c.if-not-holds.false in
-    let s = c.in_ok-filled.ensures.played u c.fill-made.ensures.made in
+    let s = c.in_ok-filled.ensures.played u (filled_makes _ _ c.fill-made.ensures.filled) in
     s.0.sound (h.sound c.requires.sound)
 
 pub filling-guard-requires-clause-honest : goal.filling-guard-requires-clause-honest
@@ -929,7 +929,7 @@ filling-guard-requires-clause-honest g t c =
     let u = fill_binding b (matching.runs d) in
     let h = (c.in_ok-holds.ensures.played (2 ^ 64) (omega arith)).0 in
     let on = filled_leads b d _ _ _ _ _ (filling_leads b d k) h c.if-not-holds.false in
-    let s = c.in_ok-filled.ensures.played u c.fill-made.ensures.made in
+    let s = c.in_ok-filled.ensures.played u (filled_makes _ _ c.fill-made.ensures.filled) in
     let honest = later s.0 _ (later h _ (subst (λ z. IfOk z (Honest k)) c.in_ok-filled.ensures.made (made_honest k c.args.view.now c.args.body.now c.fill-made.result c.fill-made.ensures.passed c.requires.view c.requires.body))) in
     honest
 
@@ -941,7 +941,7 @@ filling-returns-clause-played g t c =
     let u = fill_binding b (matching.runs d) in
     let h = (c.in_ok-holds.ensures.played (2 ^ 64) (omega arith)).0 in
     let on = filled_leads b d _ _ _ _ _ (filling_leads b d k) h c.if-not-holds.false in
-    let s = c.in_ok-filled.ensures.played u c.fill-made.ensures.made in
+    let s = c.in_ok-filled.ensures.played u (filled_makes _ _ c.fill-made.ensures.filled) in
     let sized = sized_leads b u d _ _ _ _ refl on s.0 in
     let x = plain c.in_ok-filled.filled in
     let g2 = guarded_leads (matching.is_guarded b) (matching.is_guarded u) u _ _ _ (sym c.is_guarded.ensures ∙ c.if-not-is_guarded.false) (ap matching.is_guarded (sym s.1) ∙ sym c.is_guarded-2.ensures ∙ c.if-not-is_guarded-2.false) sized in
