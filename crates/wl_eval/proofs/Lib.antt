@@ -30,3 +30,4 @@ mod RowParts
 mod Symbols
 mod EntryRowParts
 mod HistoryRowParts
+mod DefiningParts

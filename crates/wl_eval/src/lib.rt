@@ -1,6 +1,7 @@
 //! The definition of evaluation, and its laws.
 #![tactic(auto)]
 
+mod defining;
 mod effects;
 mod ends;
 mod entry_rows;
