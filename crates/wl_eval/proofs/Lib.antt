@@ -40,3 +40,4 @@ mod RowParts
 mod Symbols
 mod EntryRowParts
 mod HistoryRowParts
+mod DefiningParts

@@ -10,6 +10,7 @@ use Rattle.wl_rules.specs.declared.attribute.Attribute.{Attribute}
 use Rattle.wl_rules.specs.declared.attribute.Attribute.TheVariants.{Protected}
 use Rattle.wl_eval.specs.Prog.{Prog, set_attributes, ◌>>=◌, entry_of, doing, unchanged, result}
 use Rattle.wl_eval.specs.BuiltIn.{sized_result}
+use Rattle.wl_eval.specs.Definitions.{LeftSide}
 use Rattle.wl_eval.specs.EntryRows.{changing, attributes_in}
 use Rattle.wl_eval.specs.MessageRows.{MessageName, message_name}
 use Rattle.wl_eval.specs.Played.{Makes}
@@ -93,3 +94,8 @@ protection b x = do
   e ← entry_of x
   _ ← doing (set_attributes x (put b e.attributes Protected))
   result (protection_names b e.attributes.protected x)
+
+-- ---- definitions
+
+abbrev pub left_side : Tree → Tree → LeftSide
+left_side l c = record { left = l; core = c }

@@ -3,6 +3,7 @@
 
 mod applying;
 mod built_in;
+mod defining;
 mod effects;
 mod elements;
 mod ends;
