@@ -1,0 +1,5 @@
+use Rattle.wl_shape.proofs.tests.bound_runs.Goals as goal
+
+-- src/tests.rt:206:16
+pub view-view-requires : goal.view-view-requires
+view-view-requires g c = c.next.ensures.searches (c.start-machine.ensures.searches _ _)
