@@ -1,15 +1,18 @@
 -- How the parts of definitions play.
-use Rattle.std.proofs.Common.{◌≡◌, Bool, true, false, ◌&&◌, not, [], ◌∷◌, Ok, sym, subst}
+use Rattle.std.proofs.Common.{◌≡◌, Bool, true, false, ◌&&◌, ◌||◌, not, [], ◌∷◌, Option, Some, Ok, refl, sym, subst}
 use Rattle.std.specs.Prelude.{codes}
 use Rattle.wl_expr.specs.Tree.{Tree, text, symbol}
-use Rattle.wl_expr.specs.Words.{Name, Bytes}
+use Rattle.wl_expr.specs.Words.{Name, Bytes, null_symbol, failed_symbol}
+use Rattle.wl_rules.specs.Entries.{of_kind, left_side as plain_left}
+use Rattle.wl_rules.specs.RuleLists.{has_left}
+use Rattle.wl_rules.specs.Stored.{definitions as stored}
 use Rattle.wl_rules.specs.declared.rule.RuleKind.{RuleKind}
-use Rattle.wl_eval.specs.Prog.{Prog, done, ◌>>=◌, put_rule, put_message, doing, message, is_protected}
+use Rattle.wl_eval.specs.Prog.{Prog, done, ◌>>=◌, put_rule, put_message, remove_rule, entry_of, result, doing, message, is_protected}
 use Rattle.wl_eval.specs.Definitions as definitions
 use Rattle.wl_eval.specs.Definitions.{limset, write_message}
 use Rattle.wl_eval.specs.LeftSides.{is_limit}
-use Rattle.wl_eval.specs.Operands.{left_side}
-use Rattle.wl_eval.specs.Played.{Plays}
+use Rattle.wl_eval.specs.Operands.{left_side, taken_answer}
+use Rattle.wl_eval.specs.Played.{Plays, TakesAway}
 use Rattle.wl_eval.specs.declared.evaluator.Evaluator.{Evaluator}
 use Rattle.wl_eval.proofs.Playing.{plays_bind, plays_done}
 
@@ -63,3 +66,27 @@ module _ (s : Name) (t y : Bytes) (k k1 k2 : Evaluator) (p : Bool) (h : Plays (i
   pub text_by_limit : (b : Bool) → p ≡ false → is_limit s ≡ b → Plays (texts_limit s t y b) k1 (Ok tt) k2 false → Plays (definitions.set_message s t y) k (Ok tt) k2 false
   text_by_limit b e f m =
       plays_bind (is_protected s) _ h (subst (λ z. Plays (texts_by s t y z) k1 (Ok tt) k2 false) (sym e) (subst (λ z. Plays (texts_limit s t y z) k1 (Ok tt) k2 false) (sym f) m))
+
+-- ---- a rule taken away
+
+abbrev takes_by : RuleKind → Name → Tree → Bool → Prog (Option Tree)
+takes_by kind x l b = elim b [ true ↦ result failed_symbol | false ↦ doing (remove_rule x kind l) >>= λ _. result null_symbol ]
+
+abbrev takes_at : RuleKind → Name → Tree → Bool → Prog (Option Tree)
+takes_at kind x l r = entry_of x >>= λ e. takes_by kind x l (r || not (has_left plain_left l (of_kind kind e.rules)))
+
+module _ (kind : RuleKind) (x : Name) (l c : Tree) (k k1 : Evaluator) (r : Bool) (h : Plays (definitions.refuses kind x c null_symbol false) k (Ok r) k1 false) where
+  takes : (q : Bool) (a : Option Tree) (k3 : Evaluator) → r ≡ q → Plays (takes_at kind x l q) k1 (Ok a) k3 false → Plays (definitions.taken_away kind x (left_side l c)) k (Ok a) k3 false
+  takes q a k3 e m = plays_bind (definitions.refuses kind x c null_symbol false) _ h (subst (λ z. Plays (takes_at kind x l z) k1 (Ok a) k3 false) (sym e) m)
+
+  pub taken_not : (k2 : Evaluator) → r ≡ true → Plays (entry_of x) k1 (Ok (stored k1.store x)) k2 false → Plays (definitions.taken_away kind x (left_side l c)) k (Ok (Some failed_symbol)) k2 false
+  taken_not k2 e m = takes true (Some failed_symbol) k2 e (plays_bind (entry_of x) _ m plays_done)
+
+  pub taken_found : (k2 : Evaluator) (b : Bool) → r ≡ false → TakesAway x kind l k1 b k2 → Plays (definitions.taken_away kind x (left_side l c)) k (Ok (Some (taken_answer b))) k2 false
+  taken_found k2 true e m =
+      takes false (Some null_symbol) k2 e
+      (plays_bind (entry_of x) _ m.looks (subst (λ z. Plays (takes_by kind x l (not z)) m.between (Ok (Some null_symbol)) k2 false) m.found (plays_bind (doing (remove_rule x kind l)) _ (m.taken refl) plays_done)))
+  taken_found k2 false e m =
+      takes false (Some failed_symbol) k2 e
+      (plays_bind (entry_of x) _ m.looks (subst (λ z. Plays (takes_by kind x l (not z)) m.between (Ok (Some failed_symbol)) k2 false) m.found
+      (subst (λ z. Plays (result failed_symbol) m.between (Ok (Some failed_symbol)) z false) (sym (m.none refl)) plays_done)))

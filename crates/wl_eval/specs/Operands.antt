@@ -4,7 +4,7 @@ use Rattle.wl_expr.specs.Tree.{Tree, text, symbol}
 use Rattle.wl_expr.specs.Stamped as stamped
 use Rattle.wl_expr.specs.Stamped.{Stamped}
 use Rattle.wl_expr.specs.declared.fault.ExprFault.{ExprFault}
-use Rattle.wl_expr.specs.Words.{Name, Bytes, int_of, is_list, elements, list_of, name_of, names_of}
+use Rattle.wl_expr.specs.Words.{Name, Bytes, int_of, is_list, elements, list_of, name_of, names_of, null_symbol, failed_symbol}
 use Rattle.wl_rules.specs.Attributes.{AttributeSet, put, with_all, without_all}
 use Rattle.wl_rules.specs.declared.attribute.Attribute.{Attribute}
 use Rattle.wl_rules.specs.declared.attribute.Attribute.TheVariants.{Protected}
@@ -99,3 +99,8 @@ protection b x = do
 
 abbrev pub left_side : Tree → Tree → LeftSide
 left_side l c = record { left = l; core = c }
+
+-- what Unset gives
+abbrev pub taken_answer : Bool → Tree
+taken_answer true = null_symbol
+taken_answer false = failed_symbol

@@ -1,17 +1,17 @@
 //! What a definition does once its left side stands.
-ghost use Rattle.std.specs.Prelude.{◌≡◌, ◌∷◌, [], IfOk, Ok, true, false, codes};
+ghost use Rattle.std.specs.Prelude.{◌≡◌, ◌∷◌, [], IfOk, Ok, true, false, codes, Some};
 ghost use Rattle.wl_expr.specs.Stamped.{plain};
 ghost use Rattle.wl_expr.specs.Tree as tree;
 ghost use Rattle.wl_expr.specs.Words.{leftmost};
 ghost use Rattle.wl_ports.specs.Name.{IsName};
 ghost use Rattle.wl_eval.specs.Definitions as definitions;
 ghost use Rattle.wl_eval.specs.LeftSides.{is_limit, limit_allows};
-ghost use Rattle.wl_eval.specs.Operands.{left_side};
+ghost use Rattle.wl_eval.specs.Operands.{left_side, taken_answer};
 ghost use Rattle.wl_eval.specs.Played.{Honest, IsUnprotected, Plays, Sound};
 ghost use Rattle.wl_eval.specs.Prog as prog;
 
 use crate::evaluator::Evaluator;
-use crate::operands::symbol;
+use crate::operands::{null, symbol};
 use crate::refusals::is_limit;
 use std::slice;
 use wl_expr::{Expr, Look};
@@ -189,5 +189,31 @@ impl Evaluator {
             return self.refuse_limit(name, &subject, value, work);
         }
         self.put_message(name, tag, text)
+    }
+
+    /// Takes away the rule with this left side, and answers whether it did: not where there is none, or where its definition would be
+    /// refused.
+    pub(crate) fn taken_away<L: Ledger>(
+        &mut self,
+        kind: RuleKind,
+        name: &str,
+        left: &Expr,
+        core: &Expr,
+        work: &mut Work<L>,
+    ) -> Result<bool, Memory>
+        requires sound { Sound self.old }
+        requires name { IsName name.now }
+        ensures played { IfOk result (λ b. Plays (definitions.taken_away kind name.now (left_side (plain left.now) (plain core.now)))
+            self.old (Ok (Some (taken_answer b))) self.new false) }
+        ensures kept { self.new.steps ≡ self.old.steps }
+    {
+        let null = null(self.alloc)?;
+        let is_refused = self.refuses(kind, name, core, &null, false, work)?;
+        if is_refused {
+            let _looked = self.attributes_of(name, work)?;
+            return Ok(false);
+        }
+        let found = self.remove_rule(name, kind, left, work)?;
+        Ok(found)
     }
 }
