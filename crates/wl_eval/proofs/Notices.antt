@@ -30,6 +30,7 @@ use Rattle.wl_lists.specs.Functions as functions
 use Rattle.wl_lists.specs.Joining as joining
 use Rattle.wl_lists.specs.Nodes.{node_of, by_node, of_node, of_node_and, given, list_elements, is_level_one}
 use Rattle.wl_lists.specs.Partitions as partitions
+use Rattle.wl_lists.specs.Parts as parts
 use Rattle.wl_lists.specs.Ranges as ranges
 use Rattle.wl_lists.specs.Segments as segments
 use Rattle.wl_lists.specs.Strings as strings
@@ -283,6 +284,22 @@ dropped : (h : Tree) (ts : List Tree) (o : Option _) → NoticeFits (segments.dr
 dropped h ts None = tt
 dropped h ts (Some s) = tt
 
+part_answered : (t : Tree) (o : Option parts.Failure) → NoticeFits (parts.part_answer t o)
+part_answered t None = tt
+part_answered t (Some (parts.missing i e)) = tt
+part_answered t (Some parts.no_index) = tt
+
+part : (es : List Tree) → NoticeFits (parts.part_row es)
+part [] = tt
+part (num n ∷ es) = tt
+part (text s ∷ es) = tt
+part (symbol x ∷ es) = tt
+part (node h ts ∷ []) = tt
+part (node h ts ∷ i ∷ is) =
+    let t = parts.part_of (i ∷ is) (node h ts) in
+    let o = parts.failure (i ∷ is) (node h ts) in
+    either (list_all parts.is_index (i ∷ is)) (parts.part_answer t o) unchanged (part_answered t o) tt
+
 flattened : (o : Option ℕ) (t : Tree) → NoticeFits (flattening.flatten_by o t)
 flattened o (num n) = tt
 flattened o (text s) = tt
@@ -403,6 +420,7 @@ lists_notices l.Reverse es = of_node_fits _ (λ h ts. tt) es
 lists_notices l.Sort es = of_node_fits _ (λ h ts. tt) es
 lists_notices l.Union es = union es
 lists_notices l.DeleteDuplicates es = of_node_fits _ (λ h ts. tt) es
+lists_notices l.Part es = part es
 lists_notices l.Take es = of_node_and_fits _ (λ h ts x. taken h ts _) es
 lists_notices l.Drop es = of_node_and_fits _ (λ h ts x. dropped h ts _) es
 lists_notices l.Flatten es = flatten es

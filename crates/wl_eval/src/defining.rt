@@ -68,7 +68,7 @@ impl Evaluator {
     }
 
     /// Whether the symbol gets no rule of this kind, of which a message tells then.
-    fn refuses<L: Ledger>(
+    fn forbids<L: Ledger>(
         &mut self,
         kind: RuleKind,
         name: &str,
@@ -121,7 +121,7 @@ impl Evaluator {
             (plain body.now) (plain value.now) allowed) self.old (Ok b) self.new false) }
         ensures kept { self.new.steps ≡ self.old.steps }
     {
-        let is_refused = self.refuses(kind, name, core, value, allowed, work)?;
+        let is_refused = self.forbids(kind, name, core, value, allowed, work)?;
         if is_refused {
             return Ok(true);
         }
@@ -208,7 +208,7 @@ impl Evaluator {
         ensures kept { self.new.steps ≡ self.old.steps }
     {
         let null = null(self.alloc)?;
-        let is_refused = self.refuses(kind, name, core, &null, false, work)?;
+        let is_refused = self.forbids(kind, name, core, &null, false, work)?;
         if is_refused {
             let _looked = self.attributes_of(name, work)?;
             return Ok(false);

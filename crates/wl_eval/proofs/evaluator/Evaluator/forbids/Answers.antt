@@ -1,7 +1,7 @@
 use Rattle.std.proofs.Common.{Bool, ◌&&◌, not, sym, ap, ap₂, ◌∙◌}
 use Rattle.wl_expr.specs.Stamped.{plain}
 use Rattle.wl_eval.proofs.DefiningParts.{told_protected, told_limit, not_refused}
-use Rattle.wl_eval.proofs.evaluator.Evaluator.refuses.Goals as goal
+use Rattle.wl_eval.proofs.evaluator.Evaluator.forbids.Goals as goal
 
 pub returns-then-is_protected-clause-played : goal.returns-then-is_protected-clause-played
 returns-then-is_protected-clause-played g c =
