@@ -1,16 +1,21 @@
-"""Compares the leaves that wl_match's definition lists with those of an independent writing, on random patterns.
+"""Compares the leaves of wl_match's search and definition with those of an independent writing, on random patterns.
 
-    python3 tools/match_oracle/compare.py [COUNT [SEED [ORACLE]]]
+    python3 tools/match_oracle/compare.py [--search] [COUNT [SEED [ORACLE]]]
 
-ORACLE is the folder of patterns.py and tree.py; tools/oracle, if none is given. Each pair of a pattern and a subject becomes a row that holds by computing
-with the definition: `Trials (pattern flags P) S` is the oracle's list of leaves, each with its bindings and its tests. The rows
-stand in files of their own in a copy of the crates, which `rt check` reads; nothing here is changed. Patterns are of all forms,
-heads have all flags. Pairs with more than 60 leaves are passed over, and counted.
+ORACLE is the folder of patterns.py and tree.py; tools/oracle, if none is given. Patterns are of all forms, heads have all flags. Pairs
+with more than 60 leaves are passed over, and counted. Nothing here is changed: a copy of the crates is used.
+
+The search is run: a program (driver.rt.txt, by `rt try`, unproved) prints each leaf, with what its names are bound to and its tests as
+`View` lends them, and they are the oracle's; a run that is lent has elements as its kind has. With --search that is all.
+
+Then each pair becomes a row that holds by computing with the definition: `Trials (pattern flags P) S` is the oracle's list of leaves,
+each with its bindings and its tests. The rows stand in files of their own, which `rt check` reads.
 """
 import collections
 import itertools
 import pathlib
 import random
+import re
 import shutil
 import subprocess
 import sys
@@ -18,10 +23,8 @@ import tempfile
 from fractions import Fraction
 
 sys.dont_write_bytecode = True
-TOOLS = pathlib.Path(__file__).resolve().parent.parent
-sys.path.insert(0, str(TOOLS))
-import clone
-
+HERE = pathlib.Path(__file__).resolve().parent
+ROOT = HERE.parent.parent
 MOST_LEAVES = 60
 ROWS_A_FILE = 250
 CRATES = ["wl_ports", "wl_exact", "wl_expr", "wl_match"]
@@ -166,10 +169,76 @@ def listed(tree, ts):
     return "(" + "".join("(%s) ∷ " % written(tree, t) for t in ts) + "[])"
 
 
+def words(tree, t):
+    """An expression in words, elements before their head."""
+    if type(t) is tree.Node:
+        return " ".join([words(tree, e) for e in (*t.args, t.head)] + [":%d" % len(t.args)])
+    if type(t) is tree.Sym:
+        return t.name
+    return "'" + t.text if type(t) is tree.Str else str(t)
+
+
+def wanted(tree, patterns, leaves):
+    out = ""
+    for one in leaves:
+        if one == patterns.FAIL:
+            out += "fail; "
+            continue
+        run = lambda r: "(" + "".join(words(tree, t) + ", " for t in r) + ") "
+        binding, tests = one
+        out += "".join("%s %s" % (x, run(binding[x])) for x in NAMES if x in binding)
+        for test in tests:
+            out += "%s %s " % (test[0], words(tree, test[1])) + (run(test[2]) if len(test) > 2 else "")
+        out += "; "
+    return out
+
+
+def plain(text, kinds, odd):
+    """What the program printed, without the kinds of runs, which are counted; a run that its kind can't have is noted."""
+    def run(found):
+        kind, parts = found.group(1), found.group(2).split(", ")[:-1]
+        kinds[kind] += 1
+        if kind == "Wrapped":
+            head, elements = parts[0], parts[1:]
+            odd.extend([text] if len(elements) < 2 or "Flat" not in FLAGS.get(head, ()) else [])
+            return "(" + " ".join(elements + [head, ":%d" % len(elements)]) + ", )"
+        odd.extend([text] if (kind == "One") != (len(parts) == 1) else [])
+        return "(" + found.group(2) + ")"
+    return re.sub(r"(One|Slice|Picked|Wrapped)\(([^)]*)\)", run, text)
+
+
+def search(tree, patterns, rows):
+    lines = [words(tree, p) + "|" + words(tree, s) for p, s, _ in rows]
+    with tempfile.TemporaryDirectory() as folder:
+        copy = pathlib.Path(folder)
+        text = [line for line in (ROOT / "crates.txt").read_text().splitlines(keepends=True) if line.split(":")[0] in CRATES]
+        (copy / "crates.txt").write_text("".join(text) + "drive: wl_match wl_expr wl_exact wl_ports anyhow\n")
+        for name in CRATES:
+            shutil.copytree(ROOT / "crates" / name, copy / "crates" / name, ignore=shutil.ignore_patterns("out"))
+        source = copy / "crates" / "drive" / "src"
+        source.mkdir(parents=True)
+        shutil.copy(HERE / "driver.rt.txt", source / "main.rt")
+        (copy / "pairs.txt").write_text("\n".join(lines) + "\n")
+        with open(copy / "pairs.txt") as given:
+            run = subprocess.run(["rt", "try"], cwd=source.parent, stdin=given, capture_output=True, text=True)
+    got = run.stdout.split("\n")[: len(lines)]
+    if len(got) < len(lines):
+        sys.exit(run.stdout[-2000:] + run.stderr[-2000:])
+    kinds, odd = collections.Counter(), []
+    wrong = [(line, want, answer) for line, want, answer in zip(lines, (wanted(tree, patterns, r[2]) for r in rows), got) if plain(answer, kinds, odd) != want]
+    for line, want, answer in wrong[:20]:
+        print("%r: oracle %r, search %r" % (line, want, answer))
+    for answer in odd[:20]:
+        print("a run that its kind can't have: %r" % answer)
+    print("the search: %d pairs, runs lent %s; differences: %d, odd runs: %d" % (len(lines), dict(kinds), len(wrong), len(odd)), flush=True)
+    return bool(wrong or odd)
+
+
 def main():
-    count = int(sys.argv[1]) if len(sys.argv) > 1 else 1000
-    seed = int(sys.argv[2]) if len(sys.argv) > 2 else 1
-    oracle = pathlib.Path(sys.argv[3]).resolve() if len(sys.argv) > 3 else TOOLS / "oracle"
+    args = [arg for arg in sys.argv[1:] if arg != "--search"]
+    count = int(args[0]) if len(args) > 0 else 1000
+    seed = int(args[1]) if len(args) > 1 else 1
+    oracle = pathlib.Path(args[2]).resolve() if len(args) > 2 else ROOT / "tools" / "oracle"
     patterns, tree = load(oracle)
     draw = Draw(tree, seed)
     flags = {name: frozenset(held) for name, held in FLAGS.items()}
@@ -184,7 +253,10 @@ def main():
         kinds["Candidate"] += sum(1 for one in leaves if one != patterns.FAIL)
         rows.append((p, s, leaves))
     print("%d pairs, %d with too many leaves passed over; leaves: %s" % (len(rows), passed, dict(kinds)), flush=True)
-    check(tree, patterns, rows)
+    if search(tree, patterns, rows):
+        sys.exit(1)
+    if "--search" not in sys.argv:
+        check(tree, patterns, rows)
 
 
 def flag_text(flag):
@@ -244,7 +316,10 @@ seen (Found e ∷ ls) = given (names_of e) (tests_of e) ∷ seen ls
 def check(tree, patterns, rows):
     copy = pathlib.Path(tempfile.mkdtemp())
     try:
-        clone.copied(copy, CRATES, checked=True)
+        lines = (ROOT / "crates.txt").read_text().splitlines(keepends=True)
+        (copy / "crates.txt").write_text("".join(line for line in lines if line.split(":")[0] in CRATES))
+        for name in CRATES:
+            shutil.copytree(ROOT / "crates" / name, copy / "crates" / name)
         proofs = copy / "crates" / "wl_match" / "proofs"
         header = HEADER % tuple(flag_text(flag) for flag in ("Flat", "Orderless", "OneIdentity"))
         lines = []

@@ -18,7 +18,7 @@ use Rattle.wl_match.specs.Means.{flags_at, head_at, site_at}
 use Rattle.wl_match.specs.Trials.{stretches}
 use Rattle.wl_match.specs.Kinds.{Kind, One, Purpose, any_kind, lends}
 use Rattle.wl_match.specs.Kinds as kind
-use Rattle.wl_match.specs.Fits.{are_places, fits}
+use Rattle.wl_match.specs.Fits.{are_places, fits, slice_kind}
 use Rattle.wl_match.specs.Serves.{ElementServes, Narrows, bare_fits, element_fits, is_headed, is_single, left_fits, stands_alone}
 
 -- ---- places
@@ -112,48 +112,56 @@ stretched_head t (part.Alternatives qs) f e = cc
 stretched_head t (part.Repeated c q) f e = cc
 stretched_head t (part.Except x q) f e = cc
 
-abbrev four : Bool → Bool → Bool → Bool → Bool
-four a b c d = a || b || c || d
+abbrev five : Bool → Bool → Bool → Bool → Bool → Bool
+five a b c d e = a || b || c || d || e
 
-first : (a b c d : Bool) → a ≡ true → four a b c d ≡ true
-first a b c d h = or_left (a || b || c) d (or_left (a || b) c (or_left a b h))
+first : (a b c d e : Bool) → a ≡ true → five a b c d e ≡ true
+first a b c d e h = or_left (a || b || c || d) e (or_left (a || b || c) d (or_left (a || b) c (or_left a b h)))
 
-second : (a b c d : Bool) → b ≡ true → four a b c d ≡ true
-second a b c d h = or_left (a || b || c) d (or_left (a || b) c (or_right a b h))
+second : (a b c d e : Bool) → b ≡ true → five a b c d e ≡ true
+second a b c d e h = or_left (a || b || c || d) e (or_left (a || b || c) d (or_left (a || b) c (or_right a b h)))
 
-third : (a b c d : Bool) → c ≡ true → four a b c d ≡ true
-third a b c d h = or_left (a || b || c) d (or_right (a || b) c h)
+third : (a b c d e : Bool) → c ≡ true → five a b c d e ≡ true
+third a b c d e h = or_left (a || b || c || d) e (or_left (a || b || c) d (or_right (a || b) c h))
 
-last : (a b c d : Bool) → d ≡ true → four a b c d ≡ true
-last a b c d h = or_right (a || b || c) d h
+fourth : (a b c d e : Bool) → d ≡ true → five a b c d e ≡ true
+fourth a b c d e h = or_left (a || b || c || d) e (or_right (a || b || c) d h)
+
+fifth : (a b c d e : Bool) → e ≡ true → five a b c d e ≡ true
+fifth a b c d e h = or_right (a || b || c || d) e h
 
 one_split : (b : Bool) (j : Kind) (g : Kind → Bool) → g (if b then One else j) ≡ true → (g One ≡ true) ⊎ (g j ≡ true)
 one_split true j g h = inl h
 one_split false j g h = inr h
 
 pub any_one : (f : Flags) (a b : Bool) (g : Kind → Bool) → g One ≡ true → any_kind f a b g ≡ true
-any_one f a b g h = first (g One) ((not f.orderless || a) && g kind.Slice) (f.orderless && g kind.Picked) (b && g kind.Wrapped) h
+any_one f a b g h = first (g One) ((not f.orderless || a) && g kind.Empty) (not f.orderless && g kind.Slice) (f.orderless && g kind.Picked) (b && g kind.Wrapped) h
 
-any_slice : (f : Flags) (a b : Bool) (g : Kind → Bool) → (not f.orderless || a) ≡ true → g kind.Slice ≡ true → any_kind f a b g ≡ true
-any_slice f a b g o h = second (g One) ((not f.orderless || a) && g kind.Slice) (f.orderless && g kind.Picked) (b && g kind.Wrapped) (and_from (not f.orderless || a) (g kind.Slice) o h)
+any_empty : (f : Flags) (a b : Bool) (g : Kind → Bool) → (not f.orderless || a) ≡ true → g kind.Empty ≡ true → any_kind f a b g ≡ true
+any_empty f a b g o h = second (g One) ((not f.orderless || a) && g kind.Empty) (not f.orderless && g kind.Slice) (f.orderless && g kind.Picked) (b && g kind.Wrapped) (and_from (not f.orderless || a) (g kind.Empty) o h)
+
+any_slice : (f : Flags) (a b : Bool) (g : Kind → Bool) → not f.orderless ≡ true → g kind.Slice ≡ true → any_kind f a b g ≡ true
+any_slice f a b g o h = third (g One) ((not f.orderless || a) && g kind.Empty) (not f.orderless && g kind.Slice) (f.orderless && g kind.Picked) (b && g kind.Wrapped) (and_from (not f.orderless) (g kind.Slice) o h)
 
 any_picked : (f : Flags) (a b : Bool) (g : Kind → Bool) → f.orderless ≡ true → g kind.Picked ≡ true → any_kind f a b g ≡ true
-any_picked f a b g o h = third (g One) ((not f.orderless || a) && g kind.Slice) (f.orderless && g kind.Picked) (b && g kind.Wrapped) (and_from f.orderless (g kind.Picked) o h)
+any_picked f a b g o h = fourth (g One) ((not f.orderless || a) && g kind.Empty) (not f.orderless && g kind.Slice) (f.orderless && g kind.Picked) (b && g kind.Wrapped) (and_from f.orderless (g kind.Picked) o h)
 
 any_wrapped : (f : Flags) (a b : Bool) (g : Kind → Bool) → b ≡ true → g kind.Wrapped ≡ true → any_kind f a b g ≡ true
-any_wrapped f a b g o h = last (g One) ((not f.orderless || a) && g kind.Slice) (f.orderless && g kind.Picked) (b && g kind.Wrapped) (and_from b (g kind.Wrapped) o h)
+any_wrapped f a b g o h = fifth (g One) ((not f.orderless || a) && g kind.Empty) (not f.orderless && g kind.Slice) (f.orderless && g kind.Picked) (b && g kind.Wrapped) (and_from b (g kind.Wrapped) o h)
+
+-- a slice of whatever length
+any_of_slice : (f : Flags) (a b : Bool) (g : Kind → Bool) (n : ℕ) → not f.orderless ≡ true → g (slice_kind n) ≡ true → any_kind f a b g ≡ true
+any_of_slice f a b g zero o h = any_empty f a b g (or_left (not f.orderless) a o) h
+any_of_slice f a b g (suc zero) o h = any_one f a b g h
+any_of_slice f a b g (suc (suc n)) o h = any_slice f a b g o h
 
 pub element_serves : (ss : List Part) (t : Tree) (i q : ℕ) (r : Taken) → element_fits ss t i r ≡ true → ElementServes ss t i q r
-element_serves ss t i q Nothing h = (refl, λ x k e. any_slice (flags_at (part_at ss i)) (stands_alone ss i) (stretches (site_at ss i) (pat ss q)) (λ j. lends (pat ss q) j x k) (or_right (not (flags_at (part_at ss i)).orderless) (stands_alone ss i) h) e)
+element_serves ss t i q Nothing h = (refl, λ x k e. any_empty (flags_at (part_at ss i)) (stands_alone ss i) (stretches (site_at ss i) (pat ss q)) (λ j. lends (pat ss q) j x k) (or_right (not (flags_at (part_at ss i)).orderless) (stands_alone ss i) h) e)
 element_serves ss t i q (At p) h = (refl, λ x k e. any_one (flags_at (part_at ss i)) (stands_alone ss i) (stretches (site_at ss i) (pat ss q)) (λ j. lends (pat ss q) j x k) e)
-element_serves ss t i q (Slice p f n) h =
-    let o = and_parts (not (flags_at (part_at ss i)).orderless) (is_headed ss t i p) h in (
-      refl,
-      λ x k e. elim (one_split (nat_eq (length (run_at ss t (Slice p f n))) 1) kind.Slice (λ j. lends (pat ss q) j x k) e) [
-        | inl one ↦ any_one (flags_at (part_at ss i)) (stands_alone ss i) (stretches (site_at ss i) (pat ss q)) (λ j. lends (pat ss q) j x k) one
-        | inr more ↦ any_slice (flags_at (part_at ss i)) (stands_alone ss i) (stretches (site_at ss i) (pat ss q)) (λ j. lends (pat ss q) j x k) (or_left (not (flags_at (part_at ss i)).orderless) (stands_alone ss i) o.0) more
-      ],
-    )
+element_serves ss t i q (Slice p f n) h = (
+  refl,
+  λ x k e. any_of_slice (flags_at (part_at ss i)) (stands_alone ss i) (stretches (site_at ss i) (pat ss q)) (λ j. lends (pat ss q) j x k) (length (run_at ss t (Slice p f n))) (and_parts (not (flags_at (part_at ss i)).orderless) (is_headed ss t i p) h).0 e,
+)
 element_serves ss t i q (Picked p is) h =
     let o = and_parts ((flags_at (part_at ss i)).orderless && is_headed ss t i p) (are_places (tree_at ss t p) is) h in
     let l = and_parts (flags_at (part_at ss i)).orderless (is_headed ss t i p) o.0 in (

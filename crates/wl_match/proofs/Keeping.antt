@@ -27,7 +27,7 @@ use Rattle.wl_match.specs.Means.{IsPart, ask_at, children, flags_at, from_child,
 use Rattle.wl_match.specs.Plays.{IsEmpty, Keeps, Marks, Puts}
 use Rattle.wl_match.specs.Kinds.{Kind, One, Purpose, of_name, of_test, any_kind, any_lends, elements_lend, is_it, lends, same_ask, same_kind, same_purpose}
 use Rattle.wl_match.specs.Kinds as kind
-use Rattle.wl_match.specs.Fits.{fits, has_test, kind_at, mark_fits, may_lend}
+use Rattle.wl_match.specs.Fits.{fits, slice_kind, has_test, kind_at, mark_fits, may_lend}
 use Rattle.wl_match.specs.Serves.{ElementServes, ElementsFit, ElementsServe, Fits, GoalFits, MatchFits, NodeServes, Serves, bare_fits, element_fits, is_bare, is_headed, is_like, left_fits, may_stretch, stands_alone, Narrows}
 use Rattle.std.proofs.Math.Bool.{and-true}
 use Rattle.wl_match.proofs.Fitting.{any_one}
@@ -43,6 +43,7 @@ put_two ss t old new g h p x y f = p.fits ss t (All-cons (GoalFits ss t) g (h �
 
 kind_refl : (k : Kind) → same_kind k k ≡ true
 kind_refl One = refl
+kind_refl kind.Empty = refl
 kind_refl kind.Slice = refl
 kind_refl kind.Picked = refl
 kind_refl kind.Wrapped = refl
@@ -197,7 +198,7 @@ members_fit ss t i from q r r' e g a = subst (λ z. GoalFits ss t (Members i (fr
 kind_of_one : (ss : List Part) (t : Tree) (r : Taken) → length (run_at ss t r) ≡ 1 → is_bare r ≡ true → kind_at ss t r ≡ One
 kind_of_one ss t Nothing l b = absurd (omega arith)
 kind_of_one ss t (At p) l b = refl
-kind_of_one ss t (Slice p f n) l b = ap (λ z. if z then One else kind.Slice) (eq-eqb (length (run_at ss t (Slice p f n))) 1 l)
+kind_of_one ss t (Slice p f n) l b = ap slice_kind l
 kind_of_one ss t (Picked p is) l b = ap (λ z. if z then One else kind.Picked) (eq-eqb (length is) 1 (sym (length-map is (element_at (tree_at ss t p))) ∙ l))
 kind_of_one ss t (Wrapped j p is) l b = cc
 

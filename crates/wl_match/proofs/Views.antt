@@ -23,10 +23,14 @@ use Rattle.wl_match.specs.declared.view.Test.{Test}
 use Rattle.wl_match.specs.Plays.{trail_of}
 use Rattle.wl_match.specs.Shown.{Asks, IsTest, tests_in}
 use Rattle.std.specs.Option.{option_map}
-use Rattle.wl_match.specs.Left.{SearchesIn, bound_in, marks_in}
-use Rattle.wl_match.specs.Kinds.{ArePlaces, Kind, One, of_name, of_test}
+use Rattle.wl_match.specs.Left.{Searches, SearchesIn, bound_in, marks_in}
+use Rattle.wl_match.specs.Serves.{Fits}
+use Rattle.wl_match.specs.declared.machine.Machine.{Machine}
+use Rattle.wl_match.specs.declared.walk.Walk.{Walk}
+use Rattle.std.specs.Global.{Global}
+use Rattle.wl_match.specs.Kinds.{ArePlaces, Kind, One, kind_of_slice, of_name, of_test}
 use Rattle.wl_match.specs.Kinds as kind
-use Rattle.wl_match.specs.Fits.{all_fit, are_places, fits, has_test, kind_at, mark_fits, may_lend, one_or}
+use Rattle.wl_match.specs.Fits.{all_fit, are_places, fits, has_test, kind_at, mark_fits, may_lend, one_or, slice_kind}
 use Rattle.wl_match.specs.Listed.{noted_in}
 
 -- ---- stamps
@@ -59,10 +63,32 @@ bound_marks ss t (Fresh a) = refl
 bound_marks ss t (Begun w) = refl
 bound_marks ss t Dead = refl
 
-pub searched_fits : (ss : List Part) (t : Tree) (s : State) → SearchesIn ss t s → all_fit ss t (marks_in s) ≡ true
-searched_fits ss t (Fresh a) h = refl
-searched_fits ss t (Begun w) h = h.trail
-searched_fits ss t Dead h = refl
+in_fits : (ss : List Part) (t : Tree) (s : State) → SearchesIn ss t s → all_fit ss t (marks_in s) ≡ true
+in_fits ss t (Fresh a) h = refl
+in_fits ss t (Begun w) h = h.trail
+in_fits ss t Dead h = refl
+
+-- ---- searches
+
+pub searched_fits : (ss : List Part) (t : Tree) (m : Machine) → Searches ss t m → all_fit ss t (marks_in m.state) ≡ true
+unfolding Searches
+searched_fits ss t m h = in_fits ss t m.state h
+
+pub fresh_searches : (ss : List Part) (t : Tree) (m : Machine) (a : Global) → m.state ≡ Fresh a → Searches ss t m
+unfolding Searches
+fresh_searches ss t m a e = subst (SearchesIn ss t) (sym e) tt
+
+pub dead_searches : (ss : List Part) (t : Tree) (m : Machine) → m.state ≡ Dead → Searches ss t m
+unfolding Searches
+dead_searches ss t m e = subst (SearchesIn ss t) (sym e) tt
+
+pub begun_searches : (ss : List Part) (t : Tree) (m : Machine) (w : Walk) → m.state ≡ Begun w → Fits ss t w → Searches ss t m
+unfolding Searches
+begun_searches ss t m w e f = subst (SearchesIn ss t) (sym e) f
+
+pub searched_walk : (ss : List Part) (t : Tree) (m : Machine) (w : Walk) → m.state ≡ Begun w → Searches ss t m → Fits ss t w
+unfolding Searches
+searched_walk ss t m w e h = subst (SearchesIn ss t) e h
 
 -- ---- runs
 
@@ -92,10 +118,18 @@ kind_other : (n : ℕ) (k : Kind) → n ≢ 1 → k ≡ one_or n k
 kind_other n k e = ap (λ z. if z then One else k) (sym (ne_eqb n 1 e))
 
 pub slice_one : (ss : List Part) (t : Tree) (p : Place) (f n : ℕ) (run : Taken) (ts : List Stamped) → run ≡ taken.Slice p f n → map plain ts ≡ run_at ss t run → length ts ≡ 1 → One ≡ kind_at ss t run
-slice_one ss t p f n run ts e g l = kind_one (length (run_at ss t (taken.Slice p f n))) kind.Slice (sym (ap length (g ∙ ap (run_at ss t) e)) ∙ length-map ts plain ∙ l) ∙ ap (kind_at ss t) (sym e)
+slice_one ss t p f n run ts e g l =
+    let one : length (run_at ss t (taken.Slice p f n)) ≡ 1 = sym (ap length (g ∙ ap (run_at ss t) e)) ∙ length-map ts plain ∙ l in
+    ap slice_kind (sym one) ∙ ap (kind_at ss t) (sym e)
 
-pub slice_more : (ss : List Part) (t : Tree) (p : Place) (f n : ℕ) (run : Taken) (ts : List Stamped) → run ≡ taken.Slice p f n → map plain ts ≡ run_at ss t run → length ts ≢ 1 → kind.Slice ≡ kind_at ss t run
-slice_more ss t p f n run ts e g l = kind_other (length (run_at ss t (taken.Slice p f n))) kind.Slice (λ h. l (sym (length-map ts plain) ∙ ap length (g ∙ ap (run_at ss t) e) ∙ h)) ∙ ap (kind_at ss t) (sym e)
+kind_more : (ts : List Stamped) → length ts ≢ 1 → kind_of_slice ts ≡ slice_kind (length ts)
+kind_more [] h = refl
+kind_more (t ∷ []) h = absurd (h refl)
+kind_more (t ∷ u ∷ ts) h = refl
+
+pub slice_more : (ss : List Part) (t : Tree) (p : Place) (f n : ℕ) (run : Taken) (ts : List Stamped) → run ≡ taken.Slice p f n → map plain ts ≡ run_at ss t run → length ts ≢ 1 → kind_of_slice ts ≡ kind_at ss t run
+slice_more ss t p f n run ts e g l =
+    kind_more ts l ∙ ap slice_kind (sym (length-map ts plain) ∙ ap length (g ∙ ap (run_at ss t) e)) ∙ ap (kind_at ss t) (sym e)
 
 pub picked_one : (ss : List Part) (t : Tree) (p : Place) (is js : List ℕ) (run : Taken) → run ≡ taken.Picked p is → js ≡ is → length js ≡ 1 → One ≡ kind_at ss t run
 picked_one ss t p is js run e g l = kind_one (length is) kind.Picked (ap length (sym g) ∙ l) ∙ ap (kind_at ss t) (sym e)

@@ -1,6 +1,6 @@
 -- What a search has bound and noted fits its pattern: each run is of a kind that the pattern may take for this purpose, a run under a
 -- head of its own stands for elements of a node that has this head, and a test was noted for a part that has one.
-use Rattle.std.specs.Prelude.{ℕ, Bool, true, false, ◌&&◌, nat_eq, nat_lt, if◌then◌else◌, List, [], ◌∷◌, length}
+use Rattle.std.specs.Prelude.{ℕ, zero, suc, Bool, true, false, ◌&&◌, nat_eq, nat_lt, if◌then◌else◌, List, [], ◌∷◌, length}
 use Rattle.wl_expr.specs.Tree.{Tree}
 use Rattle.wl_expr.specs.Same.{same}
 use Rattle.wl_match.specs.declared.part.Part.{Part}
@@ -12,15 +12,20 @@ use Rattle.wl_match.specs.declared.taken.Mark.TheVariants.{Bound, Noted}
 use Rattle.wl_match.specs.Parts.{whole}
 use Rattle.wl_match.specs.Runs.{child, elements_of, kept_at, part_at, run_at, tree_at}
 use Rattle.wl_match.specs.Means.{ask_at, name_at}
-use Rattle.wl_match.specs.Kinds.{Kind, One, Slice, Picked, Wrapped, Purpose, of_name, of_test, lends}
+use Rattle.wl_match.specs.Kinds.{Kind, One, Empty, Slice, Picked, Wrapped, Purpose, of_name, of_test, lends}
 
 abbrev pub one_or : ℕ → Kind → Kind
 one_or n k = if nat_eq n 1 then One else k
 
+abbrev pub slice_kind : ℕ → Kind
+slice_kind zero = Empty
+slice_kind (suc zero) = One
+slice_kind (suc (suc n)) = Slice
+
 abbrev pub kind_at : List Part → Tree → Taken → Kind
-kind_at ss t taken.Nothing = Slice
+kind_at ss t taken.Nothing = Empty
 kind_at ss t (taken.Tree p) = One
-kind_at ss t (taken.Slice p from n) = one_or (length (run_at ss t (taken.Slice p from n))) Slice
+kind_at ss t (taken.Slice p from n) = slice_kind (length (run_at ss t (taken.Slice p from n)))
 kind_at ss t (taken.Picked p is) = one_or (length is) Picked
 kind_at ss t (taken.Wrapped i p is) = Wrapped
 

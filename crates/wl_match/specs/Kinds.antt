@@ -1,10 +1,10 @@
 -- The kinds of runs: how what a pattern binds and tests is lent.
-use Rattle.std.specs.Prelude.{◌≢◌, ◌≤◌, ◌<◌, ℕ, Bool, true, false, not, ◌&&◌, ◌||◌, IsTrue, List, length, ⊤}
+use Rattle.std.specs.Prelude.{◌≢◌, ◌≤◌, ◌<◌, ℕ, Bool, true, false, not, ◌&&◌, ◌||◌, IsTrue, List, [], ◌∷◌, length, ⊤}
 use Rattle.std.specs.Str.{bytes_eq}
 use Rattle.std.specs.List.{All}
 use Rattle.wl_expr.specs.Tree.{Tree}
 use Rattle.wl_expr.specs.Same.{same}
-use Rattle.wl_expr.specs.Stamped.{plain}
+use Rattle.wl_expr.specs.Stamped.{Stamped, plain}
 use Rattle.wl_match.specs.declared.flags.Flags.{Flags}
 use Rattle.wl_match.specs.Pattern.{Ask, applies, holds, refuses, Pat, exactly, blank, named, tested, hold, optional, alternatives, repeated, except, nodes, Pats, end, also, any_optional}
 use Rattle.wl_match.specs.Trials.{Site, stretches}
@@ -12,8 +12,10 @@ use Rattle.wl_match.specs.Runs.{elements_of}
 use Rattle.wl_match.specs.declared.lent.Run.{Run}
 use Rattle.wl_match.specs.declared.lent.Run.TheVariants as run
 
+-- an empty slice is a kind of its own
 pub data Kind : Type 0 where
   One : Kind
+  Empty : Kind
   Slice : Kind
   Picked : Kind
   Wrapped : Kind
@@ -25,6 +27,7 @@ pub data Purpose : Type 0 where
 
 abbrev pub same_kind : Kind → Kind → Bool
 same_kind One One = true
+same_kind Empty Empty = true
 same_kind Slice Slice = true
 same_kind Picked Picked = true
 same_kind Wrapped Wrapped = true
@@ -44,11 +47,15 @@ same_purpose _ _ = false
 abbrev pub is_it : Purpose → Kind → Purpose → Kind → Bool
 is_it y j x k = same_purpose y x && same_kind j k
 
--- an element takes one expression; or elements side by side, or picked ones under an orderless head, or two and more as one under a
--- flat head; where one expression stands alone, that one or none
+-- an element takes one expression; or none or more of them side by side, or picked under an orderless head; or two and more as one
+-- under a flat head; where one expression stands alone, that one or none
 abbrev pub any_kind : Flags → Bool → Bool → (Kind → Bool) → Bool
 any_kind f alone stretched g =
-    g One || ((not f.orderless || alone) && g Slice) || (f.orderless && g Picked) || (stretched && g Wrapped)
+    g One
+    || ((not f.orderless || alone) && g Empty)
+    || (not f.orderless && g Slice)
+    || (f.orderless && g Picked)
+    || (stretched && g Wrapped)
 
 -- whether a pattern on a run of kind j may take a run of kind k for this purpose
 abbrev mutual
@@ -72,9 +79,13 @@ abbrev mutual
   elements_lend s alone end x k = false
   elements_lend s alone (also p ps) x k = any_kind s.flags alone (stretches s p) (λ j. lends p j x k) || elements_lend s alone ps x k
 
+abbrev pub kind_of_slice : List Stamped → Kind
+kind_of_slice [] = Empty
+kind_of_slice (t ∷ ts) = Slice
+
 abbrev pub kind_of : Run → Kind
 kind_of (run.One t) = One
-kind_of (run.Slice ts) = Slice
+kind_of (run.Slice ts) = kind_of_slice ts.now
 kind_of (run.Picked t is) = Picked
 kind_of (run.Wrapped t is) = Wrapped
 

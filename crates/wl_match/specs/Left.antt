@@ -49,5 +49,5 @@ SearchesIn ss t (Begun w) = Fits ss t w
 SearchesIn ss t _ = ⊤
 
 -- the search, as far as it has come, is of this pattern on this subject
-abbrev pub Searches : List Part → Tree → Machine → Type 0
+unfoldable pub Searches : List Part → Tree → Machine → Type 0
 Searches ss t m = SearchesIn ss t m.state

@@ -24,6 +24,7 @@ use crate::trace::LentTrace;
 use crate::view::{Test, View};
 use wl_expr::Expr;
 
+/// The run, lent.
 fn shown<'m, 'a>(pattern: &'a Pattern, subject: &'a Expr, run: &'m Taken) -> Run<'m, 'a>
     ensures trees { IsTrue (fits pattern.now (plain subject.now) run.now)
         → runs.shown result ≡ run_at pattern.now (plain subject.now) run.now }
