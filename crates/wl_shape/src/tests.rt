@@ -188,12 +188,24 @@ fn bound_runs(rt: HostRuntime) -> Result<(), Fail> {
     let y = symbol(&rt, alloc, "y")?;
     let one = two(&rt, alloc, "Pattern", &x, &form(&rt, alloc, "Blank", &[])?)?;
     let many = form(&rt, alloc, "BlankSequence", &[])?;
-    let left = two(&rt, alloc, "f", &one, &two(&rt, alloc, "Pattern", &y, &many)?)?;
+    let left = two(
+        &rt,
+        alloc,
+        "f",
+        &one,
+        &two(&rt, alloc, "Pattern", &y, &many)?,
+    )?;
     assert!(rt; head_count(&left) == 5);
     let pattern = Pattern::prepare(alloc, &left, &[Flags::NONE; 5])?;
     let a = symbol(&rt, alloc, "a")?;
     let subject = form(&rt, alloc, "f", &[a.copy()?, b.copy()?, number(alloc, 3)?])?;
-    let scope = two(&rt, alloc, "Function", &b, &two(&rt, alloc, "List", &b, &y)?)?;
+    let scope = two(
+        &rt,
+        alloc,
+        "Function",
+        &b,
+        &two(&rt, alloc, "List", &b, &y)?,
+    )?;
     let body = form(&rt, alloc, "g", &[x, y, scope])?;
     let run = two(&rt, alloc, "Sequence", &b, &number(alloc, 3)?)?;
     let marked = symbol(&rt, alloc, "b$")?;
