@@ -220,7 +220,7 @@ def search(tree, patterns, rows):
         shutil.copy(HERE / "driver.rt.txt", source / "main.rt")
         (copy / "pairs.txt").write_text("\n".join(lines) + "\n")
         with open(copy / "pairs.txt") as given:
-            run = subprocess.run(["rt", "try"], cwd=source.parent, stdin=given, capture_output=True, text=True)
+            run = subprocess.run(["rt", "try", "--seconds", "3000"], cwd=source.parent, stdin=given, capture_output=True, text=True)
     got = run.stdout.split("\n")[: len(lines)]
     if len(got) < len(lines):
         sys.exit(run.stdout[-2000:] + run.stderr[-2000:])
@@ -341,4 +341,5 @@ def check(tree, patterns, rows):
         shutil.rmtree(copy)
 
 
-main()
+if __name__ == "__main__":
+    main()

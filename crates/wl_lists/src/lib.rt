@@ -19,6 +19,3 @@ mod strings;
 mod transposing;
 
 pub use kind::{Kind, apply};
-
-#[cfg(test)]
-mod tests;

@@ -13,6 +13,7 @@ pub mod Chains
 pub mod CutsLemmas
 pub mod Finds
 pub mod LentLemmas
+pub mod LiteralLemmas
 pub mod LooksLemmas
 pub mod Picks
 pub mod PatternLemmas

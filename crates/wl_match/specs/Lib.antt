@@ -6,6 +6,7 @@ pub mod Heads
 pub mod Followed
 pub mod Placed
 pub mod Left
+pub mod Literals
 -- What serves the proofs.
 pub mod Sought
 pub mod Parts

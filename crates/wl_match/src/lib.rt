@@ -33,6 +33,3 @@ pub use lent::Run;
 pub use machine::Machine;
 pub use pattern::Pattern;
 pub use view::{Test, View};
-
-#[cfg(test)]
-mod tests;

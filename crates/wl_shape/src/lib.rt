@@ -18,6 +18,3 @@ mod walk;
 
 pub use arrangement::{Shaped, arrange};
 pub use filling::{fill, rename, replace};
-
-#[cfg(test)]
-mod tests;

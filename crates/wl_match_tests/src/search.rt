@@ -2,11 +2,11 @@
 ghost use Rattle.std.specs.Prelude.{◌≡◌, IfOk, None};
 ghost use Rattle.wl_expr.specs.Stamped.{symbol};
 
-use crate::{Flags, Leaf, Machine, Pattern, head_at, head_count};
 use std::alloc::Global;
 use std::process::Abort;
 use std::test::Fail;
 use wl_expr::Expr;
+use wl_match::{Flags, Leaf, Machine, Pattern, head_at, head_count};
 use wl_ports::{NoLedger, Work, is_name};
 
 fn symbol(rt: &impl Abort, alloc: Global, name: &str) -> Result<Expr, Fail>

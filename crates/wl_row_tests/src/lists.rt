@@ -1,11 +1,11 @@
 //! Rows with what they give: two ordinary cases of each, and one that stays.
-use crate::{Kind, apply};
 use std::alloc::Global;
 use std::process::Abort;
 use std::test::Fail;
 use wl_exact::Num;
 use wl_expr::{Applied, Expr, Notice};
 use wl_form::full_form;
+use wl_lists::{Kind, apply};
 use wl_ports::is_name;
 
 fn number(alloc: Global, p: i128, q: i128) -> Result<Expr, Fail> {

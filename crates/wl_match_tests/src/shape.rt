@@ -2,7 +2,6 @@
 ghost use Rattle.std.specs.Prelude.{◌≡◌, IfOk, None};
 ghost use Rattle.wl_expr.specs.Stamped.{symbol};
 
-use crate::{Shaped, arrange, fill, rename, replace};
 use std::alloc::Global;
 use std::process::Abort;
 use std::test::Fail;
@@ -11,6 +10,7 @@ use wl_expr::Expr;
 use wl_match::{Flags, Leaf, Machine, Pattern, head_count};
 use wl_ports::{NoLedger, Work, is_name};
 use wl_rules::{Attribute, Attributes};
+use wl_shape::{Shaped, arrange, fill, rename, replace};
 
 fn symbol(rt: &impl Abort, alloc: Global, name: &str) -> Result<Expr, Fail>
     ensures { IfOk result (λ e. e ≡ symbol None name.now) }

@@ -1,4 +1,4 @@
-use Rattle.wl_shape.proofs.tests.bound_runs.Goals as goal
+use Rattle.wl_match_tests.proofs.shape.bound_runs.Goals as goal
 
 -- src/tests.rt:206:16
 pub view-view-requires : goal.view-view-requires
