@@ -35,6 +35,7 @@ mod Bindings
 mod Guarding
 mod Lent
 mod Matches
+mod LiteralParts
 mod Computed
 mod RowParts
 mod Symbols

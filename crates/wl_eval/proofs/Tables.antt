@@ -66,7 +66,7 @@ is_none_so : {A : Type 0} (o : Option A) → is_none o ≡ true → o ≡ None
 is_none_so None h = refl
 is_none_so (Some a) h = absurd (true≢false (sym h))
 
-both_true : (a b : Bool) → (a && b) ≡ true → (a ≡ true) × (b ≡ true)
+pub both_true : (a b : Bool) → (a && b) ≡ true → (a ≡ true) × (b ≡ true)
 both_true true b h = (refl, h)
 both_true false b h = absurd (true≢false (sym h))
 

@@ -15,6 +15,7 @@ mod history_rows;
 mod kind;
 pub mod laws;
 mod levels;
+mod literal;
 mod looks;
 mod matching;
 mod messages;

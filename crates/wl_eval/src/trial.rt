@@ -13,6 +13,7 @@ ghost use Rattle.wl_eval.specs.Searching.{HonestView};
 use crate::ends::Stop;
 use crate::evaluator::Evaluator;
 use crate::guard::is_guarded;
+use crate::literal::matches_itself;
 use wl_expr::Expr;
 use wl_match::{Machine, Pattern, View};
 use wl_ports::{Ledger, Work};
@@ -61,6 +62,10 @@ impl Evaluator {
         ensures falls { self.new.steps ≤ self.old.steps }
     {
         let flags = self.flags_of(&rule.left, work)?;
+        if matches_itself(&rule.left, flags.as_slice()) && !rule.left.same(e) {
+            self.take_step()?;
+            return Ok(None);
+        }
         let pattern = Pattern::prepare(self.alloc, &rule.left, flags.as_slice())?;
         self.first_filling(&pattern, e, &rule.body, work)
     }
