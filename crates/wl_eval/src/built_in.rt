@@ -102,11 +102,29 @@ impl Evaluator {
         ensures played { Played found_tree (sized_row (row_by kind (trees args.now))) self.old result self.new }
         ensures falls { self.new.steps ≤ self.old.steps }
     {
-        // These rows come here.
-        if self.steps == 0 {
-            let _values = self.elements(Attributes::none(), args, work);
+        match kind {
+            Kind::Clear => self.clear_row(args, work),
+            Kind::ClearAll => self.clear_all_row(args, work),
+            Kind::Attributes => self.attributes_row(args, work),
+            Kind::SetAttributes => self.set_attributes_row(args, work),
+            Kind::ClearAttributes => self.clear_attributes_row(args, work),
+            Kind::Protect => self.protect_row(args, work),
+            Kind::Unprotect => self.unprotect_row(args, work),
+            Kind::Print => self.print_row(args),
+            Kind::Message => self.message_row(args, work),
+            Kind::Off => self.off_row(args),
+            Kind::On => self.on_row(args),
+            Kind::MessageName => self.message_name_row(args, work),
+            Kind::Out => self.out_row(args),
+            Kind::In => self.in_row(args),
+            // The other rows come here.
+            _ => {
+                if self.steps == 0 {
+                    let _values = self.elements(Attributes::none(), args, work);
+                }
+                Err(Stop::Memory)
+            }
         }
-        Err(Stop::Memory)
     }
 
     /// What a row that looks at its elements alone gives, with its message.

@@ -2,7 +2,6 @@
 ghost use Rattle.std.specs.Prelude.{◌≡◌, ◌∷◌, [], IfOk, Ok, true, false, codes, Some};
 ghost use Rattle.wl_expr.specs.Stamped.{plain};
 ghost use Rattle.wl_expr.specs.Tree as tree;
-ghost use Rattle.wl_expr.specs.Words.{leftmost};
 ghost use Rattle.wl_ports.specs.Name.{IsName};
 ghost use Rattle.wl_eval.specs.Definitions as definitions;
 ghost use Rattle.wl_eval.specs.LeftSides.{is_limit, limit_allows};
@@ -10,26 +9,14 @@ ghost use Rattle.wl_eval.specs.Operands.{left_side, taken_answer};
 ghost use Rattle.wl_eval.specs.Played.{Honest, IsUnprotected, Plays, Sound};
 ghost use Rattle.wl_eval.specs.Prog as prog;
 
+use crate::applying::leftmost;
 use crate::evaluator::Evaluator;
 use crate::operands::{null, symbol};
 use crate::refusals::is_limit;
 use std::slice;
-use wl_expr::{Expr, Look};
+use wl_expr::Expr;
 use wl_ports::{Ledger, Memory, Work};
 use wl_rules::{Rule, RuleKind};
-
-/// The head of the head and so on, up to one that is no node.
-fn leftmost(e: &Expr) -> &Expr
-    ensures { plain result.now ≡ leftmost (plain e.now) }
-{
-    let mut part = e;
-    loop {
-        let Look::Node(head, _) = part.view() else {
-            return part;
-        };
-        part = head;
-    }
-}
 
 impl Evaluator {
     /// Tells that a Protected symbol gets no rule of this kind.

@@ -6,12 +6,14 @@ ghost use Rattle.wl_expr.specs.Words.{fits, int_of};
 ghost use Rattle.wl_rules.specs.Entries.{message};
 ghost use Rattle.wl_rules.specs.Stored.{definitions};
 ghost use Rattle.wl_eval.specs.MessageRows as rows;
-ghost use Rattle.wl_eval.specs.Operands.{IsTextMade, as_message, name_and_text, only_int, only_message, out_line, sized_row};
+ghost use Rattle.wl_eval.specs.Operands.{IsTextMade, as_message, name_and_text, only_int, only_message, out_line};
+ghost use Rattle.wl_eval.specs.Parts.{sized_row};
 ghost use Rattle.wl_eval.specs.Played.{Played, Sound, found_tree, trees};
 
+use crate::elements::is_symbol;
 use crate::ends::Stop;
 use crate::evaluator::Evaluator;
-use crate::operands::{is_symbol, null};
+use crate::operands::null;
 use std::alloc::Global;
 use wl_expr::{Expr, ExprFault, Look};
 use wl_form::input_form;

@@ -2,7 +2,7 @@
 ghost use Rattle.std.specs.Prelude.{◌≡◌, IfOk, [], ◌∷◌, codes, is_some, option_map};
 ghost use Rattle.wl_expr.specs.Stamped.{from_list, node, plain, symbol};
 ghost use Rattle.wl_expr.specs.Tree.{Tree};
-ghost use Rattle.wl_expr.specs.Words.{is_the, list_of, names_of};
+ghost use Rattle.wl_expr.specs.Words.{list_of, names_of};
 ghost use Rattle.wl_ports.specs.Name.{IsName};
 ghost use Rattle.wl_eval.specs.BuiltIn.{sized_result};
 ghost use Rattle.wl_eval.specs.Operands.{listed, only_name, two_trees};
@@ -26,16 +26,6 @@ pub(crate) fn only_symbol(args: &[Expr]) -> Option<&str>
     match e.view() {
         Look::Symbol(name) => Some(name),
         _ => None,
-    }
-}
-
-/// Whether the expression is the symbol of this name.
-pub(crate) fn is_symbol(e: &Expr, name: &str) -> bool
-    ensures { result ≡ is_the name.now (plain e.now) }
-{
-    match e.view() {
-        Look::Symbol(s) => name == s,
-        _ => false,
     }
 }
 
