@@ -13,7 +13,8 @@ use Rattle.wl_rules.specs.Stored.{Stored, plain_entry, definitions}
 use Rattle.wl_eval.specs.Prog.{Prog, done, ◌>>=◌, set_off, recall_value, recall_input, entry_of, doing, message, unchanged}
 use Rattle.wl_eval.specs.MessageRows as rows
 use Rattle.wl_eval.specs.MessageRows.{MessageName, message_name}
-use Rattle.wl_eval.specs.Operands.{sized_row, only_int, only_message, name_and_text, out_line, IsTextMade}
+use Rattle.wl_eval.specs.Parts.{sized_row}
+use Rattle.wl_eval.specs.Operands.{only_int, only_message, name_and_text, out_line, IsTextMade}
 use Rattle.wl_eval.specs.Played.{Plays, Played, HonestMaybe, found_tree, trees}
 use Rattle.wl_eval.specs.declared.evaluator.Evaluator.{Evaluator}
 use Rattle.wl_eval.proofs.Playing.{plays_bind, plays_done}

@@ -42,3 +42,8 @@ mod Symbols
 mod EntryRowParts
 mod HistoryRowParts
 mod DefiningParts
+mod Preparing
+mod Targeting
+mod Setting
+mod Updating
+mod DefiningRows

@@ -13,7 +13,7 @@ use Rattle.wl_expr.specs.declared.fault.ExprFault.{ExprFault}
 use Rattle.wl_expr.specs.declared.fault.ExprFault.TheVariants as fault
 use Rattle.wl_eval.specs.Prog.{Prog, done, sized}
 use Rattle.wl_eval.specs.BuiltIn.{sized_result}
-use Rattle.wl_eval.specs.Operands.{sized_row}
+use Rattle.wl_eval.specs.Parts.{sized_row}
 use Rattle.wl_eval.specs.Played.{Plays, Played, Makes, Honest, found_tree, trees}
 use Rattle.wl_eval.specs.declared.evaluator.Evaluator.{Evaluator}
 use Rattle.wl_eval.specs.declared.ends.Stop.{Stop}

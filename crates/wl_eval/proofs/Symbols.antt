@@ -1,5 +1,5 @@
 -- Symbols among the elements of rows.
-use Rattle.std.proofs.Common.{Bor, ◌≡◌, ◌≢◌, ◌<◌, ◌≤◌, ◌+◌, ℕ, suc, Bool, true, false, List, [], ◌∷◌, ◌++◌, length, get_or, drop, map, drop-cons, add-one, append_assoc, append-nil, Option, Some, None, is_some, refl, sym, ap, ◌∙◌, arith, true≢false, if◌then◌else◌}
+use Rattle.std.proofs.Common.{Bor, ◌≡◌, ◌≢◌, ◌<◌, ◌≤◌, ◌+◌, ℕ, Bool, true, false, List, [], ◌∷◌, ◌++◌, length, get_or, drop, map, append_assoc, append-nil, Option, Some, None, is_some, refl, sym, ap, ◌∙◌, arith, true≢false, if◌then◌else◌}
 use Rattle.std.proofs.lemmas.Bool.Decides.{nat_tests}
 use Rattle.std.proofs.lemmas.List.{drop_all}
 use Rattle.wl_expr.specs.Stamped as stamped
@@ -12,17 +12,12 @@ use Rattle.wl_expr.specs.declared.stamp.Stamp.{Stamp}
 use Rattle.wl_rules.specs.Attributes.{AttributeSet, attribute_named, before, has, names_in}
 use Rattle.wl_rules.specs.declared.attribute.Attribute.{Attribute}
 use Rattle.wl_eval.specs.EntryRows.{attributes_in}
+use Rattle.wl_eval.proofs.Shapings.{next_of}
 use Rattle.wl_eval.proofs.Values.{list_of_plains}
 use Rattle.wl_expr.specs.Tree.{Tree, Trees, num, text, symbol, node}
 use Rattle.wl_expr.specs.Words.{Name, names_of, with_first}
 use Rattle.wl_eval.specs.Operands.{listed, names_among}
 use Rattle.wl_eval.specs.Played.{trees}
-
--- the place at which a loop over a list stands
-pub next_of : {X : Type 0} (xs : List X) (i : ℕ) (x : X) → i < length xs → x ≡ get_or xs i x → drop i xs ≡ x ∷ drop (i + 1) xs
-next_of xs i x l p =
-    let e : drop i xs ≡ get_or xs i x ∷ drop (suc i) xs = drop-cons xs i x l in
-    rw add-one (e ∙ ap (λ y. y ∷ drop (suc i) xs) (sym p))
 
 -- ---- names
 

@@ -9,15 +9,10 @@ use Rattle.wl_rules.specs.Attributes.{AttributeSet, put, with_all, without_all}
 use Rattle.wl_rules.specs.declared.attribute.Attribute.{Attribute}
 use Rattle.wl_rules.specs.declared.attribute.Attribute.TheVariants.{Protected}
 use Rattle.wl_eval.specs.Prog.{Prog, set_attributes, ◌>>=◌, entry_of, doing, unchanged, result}
-use Rattle.wl_eval.specs.BuiltIn.{sized_result}
 use Rattle.wl_eval.specs.Definitions.{LeftSide}
 use Rattle.wl_eval.specs.EntryRows.{changing, attributes_in}
 use Rattle.wl_eval.specs.MessageRows.{MessageName, message_name}
 use Rattle.wl_eval.specs.Played.{Makes}
-
--- a row, and then the size of its result tested
-abbrev pub sized_row : Prog (Option Tree) → Prog (Option Tree)
-sized_row p = p >>= λ r. sized_result r
 
 -- ---- elements
 

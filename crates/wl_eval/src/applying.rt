@@ -51,7 +51,7 @@ fn up_symbols(alloc: Global, form: &Expr) -> Result<Vec<Expr>, Memory>
 }
 
 /// The head of the head and so on, up to one that is no node.
-fn leftmost(e: &Expr) -> &Expr
+pub(crate) fn leftmost(e: &Expr) -> &Expr
     ensures { plain result.now ≡ leftmost (plain e.now) }
 {
     let mut part = e;

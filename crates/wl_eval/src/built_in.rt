@@ -13,11 +13,11 @@ use crate::elements::is_form;
 use crate::ends::Stop;
 use crate::evaluator::Evaluator;
 use crate::kind::Kind;
+use crate::update_rows::Update;
 use std::slice;
 use wl_control::Cursor;
 use wl_expr::{Applied, Expr, ExprFault, Look, Notice};
 use wl_ports::{Ledger, Memory, Work};
-use wl_rules::Attributes;
 
 /// Whether a name begins as each of a built-in function does.
 fn begins_capital(name: &str) -> bool
@@ -102,11 +102,42 @@ impl Evaluator {
         ensures played { Played found_tree (sized_row (row_by kind (trees args.now))) self.old result self.new }
         ensures falls { self.new.steps ≤ self.old.steps }
     {
-        // These rows come here.
-        if self.steps == 0 {
-            let _values = self.elements(Attributes::none(), args, work);
+        match kind {
+            Kind::Set => self.set_row(args, work),
+            Kind::SetDelayed => self.set_delayed_row(args, work),
+            Kind::UpSet => self.up_set_row(args, work),
+            Kind::UpSetDelayed => self.up_set_delayed_row(args, work),
+            Kind::TagSet => self.tag_set_row(args, work),
+            Kind::TagSetDelayed => self.tag_set_delayed_row(args, work),
+            Kind::Unset => self.unset_row(args, work),
+            Kind::TagUnset => self.tag_unset_row(args, work),
+            Kind::AddTo => self.update_row(Update::Plus, args, work),
+            Kind::SubtractFrom => self.update_row(Update::Minus, args, work),
+            Kind::TimesBy => self.update_row(Update::Times, args, work),
+            Kind::DivideBy => self.update_row(Update::Divide, args, work),
+            Kind::AppendTo => self.update_row(Update::Append, args, work),
+            Kind::PrependTo => self.update_row(Update::Prepend, args, work),
+            Kind::PreIncrement => self.step_row(false, false, args, work),
+            Kind::PreDecrement => self.step_row(false, true, args, work),
+            Kind::Increment => self.step_row(true, false, args, work),
+            Kind::Decrement => self.step_row(true, true, args, work),
+            Kind::Clear => self.clear_row(args, work),
+            Kind::ClearAll => self.clear_all_row(args, work),
+            Kind::Attributes => self.attributes_row(args, work),
+            Kind::SetAttributes => self.set_attributes_row(args, work),
+            Kind::ClearAttributes => self.clear_attributes_row(args, work),
+            Kind::Protect => self.protect_row(args, work),
+            Kind::Unprotect => self.unprotect_row(args, work),
+            Kind::Print => self.print_row(args),
+            Kind::Message => self.message_row(args, work),
+            Kind::Off => self.off_row(args),
+            Kind::On => self.on_row(args),
+            Kind::MessageName => self.message_name_row(args, work),
+            Kind::Out => self.out_row(args),
+            Kind::In => self.in_row(args),
+            // The other rows come here.
+            _ => Err(Stop::Memory),
         }
-        Err(Stop::Memory)
     }
 
     /// What a row that looks at its elements alone gives, with its message.

@@ -9,7 +9,8 @@ ghost use Rattle.wl_rules.specs.Stored.{Stored};
 ghost use Rattle.wl_rules.specs.declared.attribute.Attribute.TheVariants as attribute;
 ghost use Rattle.wl_eval.specs.EntryRows as rows;
 ghost use Rattle.wl_eval.specs.Honest.{HonestIn};
-ghost use Rattle.wl_eval.specs.Operands.{attributes_changed, names_among, protection, protection_names, put_all, sized_row};
+ghost use Rattle.wl_eval.specs.Operands.{attributes_changed, names_among, protection, protection_names, put_all};
+ghost use Rattle.wl_eval.specs.Parts.{sized_row};
 ghost use Rattle.wl_eval.specs.Played.{Makes, Played, Plays, Sound, found_tree, trees};
 ghost use Rattle.std.specs.Prelude.{true};
 

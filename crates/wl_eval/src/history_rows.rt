@@ -3,15 +3,18 @@ ghost use Rattle.std.specs.Prelude.{◌≡◌, ◌≤◌, ◌++◌, IfOk, IfSome
 ghost use Rattle.wl_desk.specs.MessageText.{argument_text};
 ghost use Rattle.wl_expr.specs.Stamped.{plain};
 ghost use Rattle.wl_expr.specs.Words.{fits, int_of};
+ghost use Rattle.wl_ports.specs.Name.{IsName};
 ghost use Rattle.wl_rules.specs.Entries.{message};
 ghost use Rattle.wl_rules.specs.Stored.{definitions};
 ghost use Rattle.wl_eval.specs.MessageRows as rows;
-ghost use Rattle.wl_eval.specs.Operands.{IsTextMade, as_message, name_and_text, only_int, only_message, out_line, sized_row};
+ghost use Rattle.wl_eval.specs.Operands.{IsTextMade, as_message, name_and_text, only_int, only_message, out_line};
+ghost use Rattle.wl_eval.specs.Parts.{sized_row};
 ghost use Rattle.wl_eval.specs.Played.{Played, Sound, found_tree, trees};
 
+use crate::elements::is_symbol;
 use crate::ends::Stop;
 use crate::evaluator::Evaluator;
-use crate::operands::{is_symbol, null};
+use crate::operands::null;
 use std::alloc::Global;
 use wl_expr::{Expr, ExprFault, Look};
 use wl_form::input_form;
@@ -43,7 +46,8 @@ fn joined(alloc: Global, args: &[Expr]) -> Result<String, Memory>
 
 /// The symbol and the tag of two elements that are a symbol and a text.
 fn name_and_text(args: &[Expr]) -> Option<(&str, &str)>
-    ensures { option_map (λ p. as_message (p.0.now, p.1.now)) result ≡ name_and_text (trees args.now) }
+    ensures value { option_map (λ p. as_message (p.0.now, p.1.now)) result ≡ name_and_text (trees args.now) }
+    ensures name { IfSome result (λ p. IsName p.0.now) }
 {
     let [symbol, tag] = args else {
         return None;
@@ -58,8 +62,9 @@ fn name_and_text(args: &[Expr]) -> Option<(&str, &str)>
 }
 
 /// The symbol and the tag of `symbol::tag`.
-fn message_name(e: &Expr) -> Option<(&str, &str)>
-    ensures { option_map (λ p. as_message (p.0.now, p.1.now)) result ≡ rows.message_name (plain e.now) }
+pub(crate) fn message_name(e: &Expr) -> Option<(&str, &str)>
+    ensures value { option_map (λ p. as_message (p.0.now, p.1.now)) result ≡ rows.message_name (plain e.now) }
+    ensures name { IfSome result (λ p. IsName p.0.now) }
 {
     let Look::Node(head, args) = e.view() else {
         return None;

@@ -3,7 +3,7 @@ use Rattle.wl_desk.specs.MessageText.{argument_text}
 use Rattle.wl_expr.specs.Stamped.{plain}
 use Rattle.wl_eval.specs.MessageRows as rows
 use Rattle.wl_eval.specs.Played.{trees}
-use Rattle.wl_eval.proofs.Symbols.{next_of}
+use Rattle.wl_eval.proofs.Shapings.{next_of}
 use Rattle.wl_eval.proofs.history_rows.joined.Goals as goal
 
 pub loop-arg-preserved : goal.loop-arg-preserved

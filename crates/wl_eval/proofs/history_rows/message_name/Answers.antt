@@ -9,5 +9,5 @@ returns-in_default c = message_other _ (no_node _ _ _ c.view.ensures.all c.in_de
 pub returns-then-not-is_symbol : goal.returns-then-not-is_symbol
 returns-then-not-is_symbol c = message_unnamed _ c.in-Node.args.now _ (sym c.is_symbol.ensures ∙ c.if-not-is_symbol.true) c.in-Node.ensures.plain
 
-pub returns : goal.returns
-returns c = c.name_and_text.ensures ∙ message_named _ c.in-Node.args.now _ (sym c.is_symbol.ensures ∙ c.if-not-is_symbol.false) c.in-Node.ensures.plain
+pub returns-clause-value : goal.returns-clause-value
+returns-clause-value c = c.name_and_text.ensures.value ∙ message_named _ c.in-Node.args.now _ (sym c.is_symbol.ensures ∙ c.if-not-is_symbol.false) c.in-Node.ensures.plain

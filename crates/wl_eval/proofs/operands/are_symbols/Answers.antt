@@ -2,7 +2,8 @@ use Rattle.std.proofs.Common.{◌∷◌, ◌+◌, is_some, drop, sym, ap, ◌∙
 use Rattle.wl_expr.specs.Stamped.{plain}
 use Rattle.wl_expr.specs.Words.{names_of}
 use Rattle.wl_eval.specs.Played.{trees}
-use Rattle.wl_eval.proofs.Symbols.{next_of, named_more, unnamed, no_symbol}
+use Rattle.wl_eval.proofs.Shapings.{next_of}
+use Rattle.wl_eval.proofs.Symbols.{named_more, unnamed, no_symbol}
 use Rattle.wl_eval.proofs.operands.are_symbols.Goals as goal
 
 pub loop-arg-preserved : goal.loop-arg-preserved

@@ -15,6 +15,9 @@ use Rattle.wl_eval.specs.declared.ends.End.{End}
 use Rattle.wl_eval.specs.declared.ends.Stop.{Stop}
 use Rattle.wl_eval.specs.declared.evaluator.Evaluator.{Evaluator}
 use Rattle.wl_eval.proofs.Bindings.{all_tests, test_within}
+use Rattle.wl_expr.specs.Tree as tree
+use Rattle.wl_expr.specs.Tree.{depth}
+use Rattle.wl_eval.specs.Definitions.{set, set_each}
 use Rattle.wl_eval.proofs.evaluator.Evaluator.+eval.Given as goal
 
 -- ---- what takes no step of its own stands below what it may be called from; a turn has taken a step
@@ -191,5 +194,73 @@ invariant-each_applies-loop-i g l = record {
   sound : Sound l.self;
   function : Honest l.self l.f;
   elements : AllHonest l.self l.elements;
+  falls : l.self.steps ≤ l.fn.self.steps;
+}
+
+-- ---- definitions
+
+abbrev pub decreases-evaluated_core : goal.decreases-evaluated_core
+decreases-evaluated_core g l = 8000 * l.self.now.steps + 4000 + depth (plain l.core.now)
+
+abbrev pub decreases-core_of : goal.decreases-core_of
+decreases-core_of g l = 8000 * l.self.now.steps + 5005
+
+abbrev pub decreases-prepared : goal.decreases-prepared
+decreases-prepared g l = 8000 * l.self.now.steps + 5010
+
+abbrev pub decreases-define : goal.decreases-define
+decreases-define g l = 8000 * l.self.now.steps + 5020
+
+abbrev pub decreases-define_up : goal.decreases-define_up
+decreases-define_up g l = 8000 * l.self.now.steps + 5020
+
+abbrev pub decreases-define_tagged : goal.decreases-define_tagged
+decreases-define_tagged g l = 8000 * l.self.now.steps + 5020
+
+abbrev pub decreases-set_one : goal.decreases-set_one
+decreases-set_one g l = 8000 * l.self.now.steps + 5030
+
+abbrev pub decreases-set : goal.decreases-set
+decreases-set g l = 8000 * l.self.now.steps + 5100 + depth (plain l.left.now)
+
+abbrev pub decreases-changing : goal.decreases-changing
+decreases-changing g l = 8000 * l.self.now.steps + 7500
+
+abbrev pub decreases-update_row : goal.decreases-update_row
+decreases-update_row g l = 8000 * l.self.now.steps + 7600
+
+abbrev pub decreases-step_row : goal.decreases-step_row
+decreases-step_row g l = 8000 * l.self.now.steps + 7600
+
+abbrev pub decreases-set_row : goal.decreases-set_row
+decreases-set_row g l = 8000 * l.self.now.steps + 7600
+
+abbrev pub decreases-set_delayed_row : goal.decreases-set_delayed_row
+decreases-set_delayed_row g l = 8000 * l.self.now.steps + 7600
+
+abbrev pub decreases-up_set_row : goal.decreases-up_set_row
+decreases-up_set_row g l = 8000 * l.self.now.steps + 7600
+
+abbrev pub decreases-up_set_delayed_row : goal.decreases-up_set_delayed_row
+decreases-up_set_delayed_row g l = 8000 * l.self.now.steps + 7600
+
+abbrev pub decreases-tag_set_row : goal.decreases-tag_set_row
+decreases-tag_set_row g l = 8000 * l.self.now.steps + 7600
+
+abbrev pub decreases-tag_set_delayed_row : goal.decreases-tag_set_delayed_row
+decreases-tag_set_delayed_row g l = 8000 * l.self.now.steps + 7600
+
+abbrev pub decreases-unset_row : goal.decreases-unset_row
+decreases-unset_row g l = 8000 * l.self.now.steps + 7600
+
+abbrev pub decreases-tag_unset_row : goal.decreases-tag_unset_row
+decreases-tag_unset_row g l = 8000 * l.self.now.steps + 7600
+
+abbrev pub invariant-set-loop-i : goal.invariant-set-loop-i
+invariant-set-loop-i g l = record {
+  leads : Leads (set (plain l.left) (plain l.value)) l.fn.self (set_each (tree.from_list (trees (drop l.i l.lefts))) (trees (drop l.i l.values))) l.self;
+  sound : Sound l.self;
+  lefts : AllHonest l.self l.lefts;
+  values : AllHonest l.self l.values;
   falls : l.self.steps ≤ l.fn.self.steps;
 }

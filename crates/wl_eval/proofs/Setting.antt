@@ -1,0 +1,199 @@
+-- How the rows play that define, set and take away.
+use Rattle.std.proofs.Common.{◌≡◌, ℕ, ◌+◌, ◌≤◌, ◌<◌, Bool, true, false, ◌&&◌, not, List, [], ◌∷◌, length, drop, get_or, Option, Some, None, option_map, Result, Ok, Err, refl, sym, ap, ap₂, ◌∙◌, subst, arith, true≢false}
+use Rattle.std.proofs.lemmas.List.{drop_all}
+use Rattle.std.specs.Prelude.{codes, nat_eq}
+use Rattle.wl_assign.specs.Targets.{target}
+use Rattle.wl_expr.specs.Stamped.{Stamped, plain}
+use Rattle.wl_expr.specs.Tree.{Tree, Trees, num, text, symbol, node, none, more, to_list, from_list, from_list_to_list}
+use Rattle.wl_expr.specs.Words.{Name, Bytes, form, is_the, is_list, elements, failed_symbol, null_symbol}
+use Rattle.wl_shape.specs.Elements.{list_elements}
+use Rattle.wl_eval.specs.State.{End}
+use Rattle.wl_eval.specs.Prog.{Prog, done, ◌>>=◌, message, result}
+use Rattle.wl_eval.specs.Definitions as definitions
+use Rattle.wl_eval.specs.Definitions.{LeftSide, define_target, define_up_target, define_tagged_by, tagged, set, set_each, set_message, set_plain, set_node, prepared}
+use Rattle.wl_eval.specs.LeftSides.{Sides, moved_condition}
+use Rattle.wl_eval.specs.MessageRows.{MessageName, message_name}
+use Rattle.wl_eval.specs.Operands.{name_and_text, taken_answer}
+use Rattle.wl_eval.specs.Played.{Plays, Leads, trees}
+use Rattle.wl_eval.specs.Prepared.{refusal, set_one, set_by, same_shape, under, sides_by}
+use Rattle.wl_eval.specs.declared.evaluator.Evaluator.{Evaluator}
+use Rattle.wl_eval.proofs.HistoryRowParts.{message_named, message_unnamed}
+use Rattle.wl_eval.proofs.Playing.{plays_bind, plays_done}
+use Rattle.wl_eval.proofs.Rows.{leads_bind}
+use Rattle.wl_eval.proofs.Shapings.{next_of}
+
+-- ---- one left side
+
+message_name_node : (h : Tree) (ls : Trees) (v : Tree) → None ≡ message_name (node h ls) → set_node h ls v ≡ set_plain (node h ls) v
+message_name_node h none v e = refl
+message_name_node h (more (num n) ls) v e = refl
+message_name_node h (more (text s) ls) v e = refl
+message_name_node h (more (node f us) ls) v e = refl
+message_name_node h (more (symbol s) none) v e = refl
+message_name_node h (more (symbol s) (more (num n) ls)) v e = refl
+message_name_node h (more (symbol s) (more (symbol x) ls)) v e = refl
+message_name_node h (more (symbol s) (more (node f us) ls)) v e = refl
+message_name_node h (more (symbol s) (more (text t) (more u us))) v e = refl
+message_name_node h (more (symbol s) (more (text t) none)) (num n) e = refl
+message_name_node h (more (symbol s) (more (text t) none)) (symbol x) e = refl
+message_name_node h (more (symbol s) (more (text t) none)) (node f us) e = refl
+message_name_node h (more (symbol s) (more (text t) none)) (text x) e = go (is_the (codes "MessageName") h) e
+  where
+    go : (b : Bool) → None ≡ (elim b [ true ↦ Some (record { symbol = s; tag = t }) | false ↦ None ])
+        → elim b [ true ↦ set_message s t x | false ↦ set_plain (node h (more (symbol s) (more (text t) none))) (text x) ] ≡ set_plain (node h (more (symbol s) (more (text t) none))) (text x)
+    go true q = absurd (let w : None ≡ Some (record { symbol = s; tag = t }) = q in cc)
+    go false q = refl
+
+pub set_unnamed : (l v : Tree) → None ≡ message_name l → set_one l v ≡ set_plain l v
+set_unnamed (num n) v e = refl
+set_unnamed (text s) v e = refl
+set_unnamed (symbol x) v e = refl
+set_unnamed (node h ls) v e = message_name_node h ls v e
+
+not_text : (h : Tree) (ls : Trees) (v : Tree) → ((x : Bytes) → v ≡ text x → ⊥) → set_node h ls v ≡ set_plain (node h ls) v
+not_text h ls (text x) n = absurd (n x refl)
+not_text h none (num a) n = refl
+not_text h (more l ls) (num a) n = go l ls
+  where
+    go : (l : Tree) (ls : Trees) → set_node h (more l ls) (num a) ≡ set_plain (node h (more l ls)) (num a)
+    go (num b) ls = refl
+    go (text s) ls = refl
+    go (node f us) ls = refl
+    go (symbol s) none = refl
+    go (symbol s) (more (num b) ls) = refl
+    go (symbol s) (more (symbol x) ls) = refl
+    go (symbol s) (more (node f us) ls) = refl
+    go (symbol s) (more (text t) none) = refl
+    go (symbol s) (more (text t) (more u us)) = refl
+not_text h none (symbol a) n = refl
+not_text h (more l ls) (symbol a) n = go l ls
+  where
+    go : (l : Tree) (ls : Trees) → set_node h (more l ls) (symbol a) ≡ set_plain (node h (more l ls)) (symbol a)
+    go (num b) ls = refl
+    go (text s) ls = refl
+    go (node f us) ls = refl
+    go (symbol s) none = refl
+    go (symbol s) (more (num b) ls) = refl
+    go (symbol s) (more (symbol x) ls) = refl
+    go (symbol s) (more (node f us) ls) = refl
+    go (symbol s) (more (text t) none) = refl
+    go (symbol s) (more (text t) (more u us)) = refl
+not_text h none (node g ws) n = refl
+not_text h (more l ls) (node g ws) n = go l ls
+  where
+    go : (l : Tree) (ls : Trees) → set_node h (more l ls) (node g ws) ≡ set_plain (node h (more l ls)) (node g ws)
+    go (num b) ls = refl
+    go (text s) ls = refl
+    go (node f us) ls = refl
+    go (symbol s) none = refl
+    go (symbol s) (more (num b) ls) = refl
+    go (symbol s) (more (symbol x) ls) = refl
+    go (symbol s) (more (node f us) ls) = refl
+    go (symbol s) (more (text t) none) = refl
+    go (symbol s) (more (text t) (more u us)) = refl
+
+-- a value that is no text
+pub set_valued : (l v : Tree) → ((x : Bytes) → v ≡ text x → ⊥) → set_one l v ≡ set_plain l v
+set_valued (num n) v f = refl
+set_valued (text s) v f = refl
+set_valued (symbol x) v f = refl
+set_valued (node h ls) v f = not_text h ls v f
+
+-- the text of a message
+pub set_text : (l : Tree) (m : MessageName) (x : Bytes) → Some m ≡ message_name l → set_one l (text x) ≡ set_message m.symbol m.tag x
+set_text (node h (more (symbol s) (more (text t) none))) m x e = go (is_the (codes "MessageName") h) e
+  where
+    go : (b : Bool) → Some m ≡ (elim b [ true ↦ Some (record { symbol = s; tag = t }) | false ↦ None ])
+        → elim b [ true ↦ set_message s t x | false ↦ set_plain (node h (more (symbol s) (more (text t) none))) (text x) ] ≡ set_message m.symbol m.tag x
+    go true q = let w : m ≡ record { symbol = s; tag = t } = cc in ap (λ (z : MessageName). set_message z.symbol z.tag x) (sym w)
+    go false q = absurd (let w : Some m ≡ None = q in cc)
+set_text (num n) m x e = absurd (let w : Some m ≡ None = e in cc)
+set_text (text s) m x e = absurd (let w : Some m ≡ None = e in cc)
+set_text (symbol s) m x e = absurd (let w : Some m ≡ None = e in cc)
+set_text (node h none) m x e = absurd (let w : Some m ≡ None = e in cc)
+set_text (node h (more (num n) ls)) m x e = absurd (let w : Some m ≡ None = e in cc)
+set_text (node h (more (text s) ls)) m x e = absurd (let w : Some m ≡ None = e in cc)
+set_text (node h (more (node f us) ls)) m x e = absurd (let w : Some m ≡ None = e in cc)
+set_text (node h (more (symbol s) none)) m x e = absurd (let w : Some m ≡ None = e in cc)
+set_text (node h (more (symbol s) (more (num n) ls))) m x e = absurd (let w : Some m ≡ None = e in cc)
+set_text (node h (more (symbol s) (more (symbol y) ls))) m x e = absurd (let w : Some m ≡ None = e in cc)
+set_text (node h (more (symbol s) (more (node f us) ls))) m x e = absurd (let w : Some m ≡ None = e in cc)
+set_text (node h (more (symbol s) (more (text t) (more u us)))) m x e = absurd (let w : Some m ≡ None = e in cc)
+
+-- ---- lists of left sides
+
+pub set_single : (l v : Tree) → None ≡ list_elements l → set l v ≡ set_one l v
+unfolding set
+set_single (num n) v e = refl
+set_single (text s) v e = refl
+set_single (symbol x) v e = refl
+set_single (node h ls) v e = go (is_the (codes "List") h) e
+  where
+    go : (b : Bool) → None ≡ (elim b as (λ _. Option (List Tree)) [ true ↦ Some (to_list ls) | false ↦ None ])
+        → elim b [ true ↦ elim (is_list v && nat_eq (length (to_list ls)) (length (elements v))) [ true ↦ set_each ls (elements v) | false ↦ message (codes "Set") (codes "shape") (node h ls ∷ v ∷ []) ] | false ↦ set_node h ls v ]
+        ≡ set_node h ls v
+    go true q = absurd (let w : None ≡ Some (to_list ls) = q in cc)
+    go false q = refl
+
+by_shape : (b : Bool) (l v : Tree) (ls : Trees) (vs : List Tree) → elim b [ true ↦ set_each ls vs | false ↦ message (codes "Set") (codes "shape") (l ∷ v ∷ []) ] ≡ set_by ls l v (elim b [ true ↦ Some vs | false ↦ None ])
+by_shape true l v ls vs = refl
+by_shape false l v ls vs = refl
+
+pub set_list : (l v : Tree) (es : List Tree) → Some es ≡ list_elements l → set l v ≡ set_by (from_list es) l v (same_shape (length es) v)
+unfolding set
+set_list (num n) v es e = absurd (let w : Some es ≡ None = e in cc)
+set_list (text s) v es e = absurd (let w : Some es ≡ None = e in cc)
+set_list (symbol x) v es e = absurd (let w : Some es ≡ None = e in cc)
+set_list (node h ls) v es e = go (is_the (codes "List") h) e
+  where
+    go : (b : Bool) → Some es ≡ (elim b as (λ _. Option (List Tree)) [ true ↦ Some (to_list ls) | false ↦ None ])
+        → elim b [ true ↦ elim (is_list v && nat_eq (length (to_list ls)) (length (elements v))) [ true ↦ set_each ls (elements v) | false ↦ message (codes "Set") (codes "shape") (node h ls ∷ v ∷ []) ] | false ↦ set_node h ls v ]
+        ≡ set_by (from_list es) (node h ls) v (same_shape (length es) v)
+    go true q =
+        let w : es ≡ to_list ls = (let z : Some es ≡ Some (to_list ls) = q in cc) in
+        by_shape (is_list v && nat_eq (length (to_list ls)) (length (elements v))) (node h ls) v ls (elements v)
+        ∙ ap (λ us. set_by us (node h ls) v (same_shape (length (to_list ls)) v)) (sym (from_list_to_list ls))
+        ∙ ap (λ us. set_by (from_list us) (node h ls) v (same_shape (length us) v)) (sym w)
+    go false q = absurd (let w : Some es ≡ None = q in cc)
+
+pub each_over : (vs : List Tree) → set_each none vs ≡ done tt
+unfolding set_each
+each_over vs = refl
+
+pub each_next : (l v : Tree) (ls : Trees) (vs : List Tree) → set_each (more l ls) (v ∷ vs) ≡ (set l v >>= λ _. set_each ls vs)
+unfolding set_each
+each_next l v ls vs = refl
+
+module _ (ls vs : List Stamped) (i : ℕ) where
+  pub set_step : (l v : Stamped) {w : Prog (Unit {0})} {k k1 k2 : Evaluator} → i < length ls → length vs ≡ length ls → l ≡ get_or ls i l → v ≡ get_or vs i v → Leads w k (set_each (from_list (trees (drop i ls))) (trees (drop i vs))) k1
+      → Plays (set (plain l) (plain v)) k1 (Ok tt) k2 false → Leads w k (set_each (from_list (trees (drop (i + 1) ls))) (trees (drop (i + 1) vs))) k2
+  set_step l v {k1 = k1} b n p q h m r k3 o d =
+      h r k3 o (subst (λ z. Plays z k1 r k3 o) (sym at) (leads_bind (set (plain l) (plain v)) (λ _. set_each (from_list (trees (drop (i + 1) ls))) (trees (drop (i + 1) vs))) m r k3 o d))
+    where
+      at : set_each (from_list (trees (drop i ls))) (trees (drop i vs)) ≡ (set (plain l) (plain v) >>= λ _. set_each (from_list (trees (drop (i + 1) ls))) (trees (drop (i + 1) vs)))
+      at = ap₂ (λ (us ws : List Stamped). set_each (from_list (trees us)) (trees ws)) (next_of ls i l b p) (next_of vs i v (omega (arith, b, n)) q)
+          ∙ each_next (plain l) (plain v) (from_list (trees (drop (i + 1) ls))) (trees (drop (i + 1) vs))
+
+  pub set_over : {w : Prog (Unit {0})} {k k1 : Evaluator} → length ls ≤ i → Leads w k (set_each (from_list (trees (drop i ls))) (trees (drop i vs))) k1 → Plays w k (Ok tt) k1 false
+  set_over {k1 = k1} b h = h _ _ _ (subst (λ z. Plays z k1 (Ok tt) k1 false) (sym (ap (λ (us : List Stamped). set_each (from_list (trees us)) (trees (drop i vs))) (drop_all i ls b) ∙ each_over (trees (drop i vs)))) plays_done)
+
+-- ---- definitions
+
+abbrev pub define_by : Bool → Tree → Sides → Prog Bool
+define_by i v m = prepared m.left >>= λ s. define_target i s m.body v (target s.core)
+
+pub define_sides : (i : Bool) (l v : Tree) (m : Sides) → moved_condition l v ≡ m → definitions.define i l v ≡ define_by i v m
+define_sides i l v m e = ap (define_by i v) e
+
+-- ---- what is given
+
+pub delayed_plays : (p : Prog Bool) (b : Bool) (k k1 : Evaluator) → Plays p k (Ok b) k1 false → Plays (definitions.delayed p) k (Ok (Some (refusal b))) k1 false
+delayed_plays p b k k1 h = plays_bind p _ h (at b)
+  where
+    at : (b : Bool) → Plays (elim b [ true ↦ result failed_symbol | false ↦ result null_symbol ]) k1 (Ok (Some (refusal b))) k1 false
+    at true = plays_done
+    at false = plays_done
+
+pub taken_refusal : (b : Bool) → taken_answer b ≡ refusal (not b)
+taken_refusal true = refl
+taken_refusal false = refl
