@@ -17,7 +17,6 @@ use std::slice;
 use wl_control::Cursor;
 use wl_expr::{Applied, Expr, ExprFault, Look, Notice};
 use wl_ports::{Ledger, Memory, Work};
-use wl_rules::Attributes;
 
 /// Whether a name begins as each of a built-in function does.
 fn begins_capital(name: &str) -> bool
@@ -102,11 +101,19 @@ impl Evaluator {
         ensures played { Played found_tree (sized_row (row_by kind (trees args.now))) self.old result self.new }
         ensures falls { self.new.steps ≤ self.old.steps }
     {
-        // These rows come here.
-        if self.steps == 0 {
-            let _values = self.elements(Attributes::none(), args, work);
+        match kind {
+            Kind::MatchQ => self.match_row(args, work),
+            Kind::MemberQ => self.member_row(args, work),
+            Kind::Count => self.count_row(args, work),
+            Kind::Cases => self.cases_row(args, work),
+            Kind::DeleteCases => self.delete_cases_row(args, work),
+            Kind::FreeQ => self.free_row(args, work),
+            Kind::Replace => self.replace_row(args, work),
+            Kind::ReplaceAll => self.replace_all_row(args, work),
+            Kind::ReplaceRepeated => self.replace_repeated_row(args, work),
+            // The others come here.
+            _ => Err(Stop::Memory),
         }
-        Err(Stop::Memory)
     }
 
     /// What a row that looks at its elements alone gives, with its message.
