@@ -1,6 +1,9 @@
 -- How replacement plays, part after part.
-use Rattle.std.proofs.Common.{◌≡◌, ℕ, suc, ◌+◌, ◌<◌, ◌≤◌, Bool, true, false, ◌&&◌, List, [], ◌∷◌, ◌++◌, length, get_or, drop, map, Option, Some, None, option_map, unwrap_or, Result, Ok, Err, IfOk, ◌↔◌, refl, sym, ap, ap₂, ◌∙◌, subst, arith, append_assoc, append-nil, true≢false}
+use Rattle.std.proofs.Common.{◌≡◌, ℕ, zero, suc, slice_index_or, Vec, Global, ◌+◌, ◌<◌, ◌≤◌, Bool, true, false, ◌&&◌, List, [], ◌∷◌, ◌++◌, length, get_or, drop, take, map, Option, Some, None, option_map, unwrap_or, Result, Ok, Err, IfOk, ◌↔◌, refl, sym, ap, ap₂, ◌∙◌, subst, arith, append_assoc, append-nil, true≢false}
 use Rattle.std.proofs.lemmas.List.{map-append}
+use Rattle.std.specs.List.{All}
+use Rattle.std.specs.Result.{IsErrAnd}
+use Rattle.wl_expr.specs.Passed.{IsFrom}
 use Rattle.std.proofs.lemmas.List.Elements.{All-push}
 use Rattle.wl_expr.specs.Stamped as stamped
 use Rattle.wl_expr.specs.Stamped.{Stamped, plain, plains}
@@ -14,26 +17,29 @@ use Rattle.wl_ports.specs.declared.Memory.{Memory}
 use Rattle.wl_rules.specs.Entries.{PlainRule}
 use Rattle.wl_rules.specs.StampedRules.{plain_rule}
 use Rattle.wl_rules.specs.declared.rule.Rule.{Rule}
-use Rattle.wl_expr.specs.Same.{same}
+use Rattle.wl_expr.specs.Same.{same, same_decides}
 use Rattle.wl_eval.specs.State.{End, State}
 use Rattle.wl_eval.specs.Prog.{Prog, done, ◌>>=◌, or_else, tick, value_of_built, result}
 use Rattle.wl_eval.specs.Eval.{Record, Res, and_then_ok, interp, Eval, Go}
 use Rattle.wl_eval.specs.Match.{rule_result, trial}
-use Rattle.wl_eval.specs.MatchRows.{replace_all, replace_each, replace_repeated, unless_replaced}
-use Rattle.wl_eval.specs.Played.{Plays, Played, Seen, Notes, Leads, Honest, HonestMaybe, state, trees, found_tree}
-use Rattle.wl_eval.specs.Replacing.{AllHonestMaybe, IsMade, IsRebuilt, fitting, joined, part_of, pushed, replacing, replacing_each, seen_replaced}
+use Rattle.wl_eval.specs.MatchRows.{replace_all, replace_all_by, replace_all_row, replace_by, replace_each, replace_repeated, replace_repeated_by, replace_repeated_row, replace_row, rules_in, unless_replaced}
+use Rattle.wl_eval.specs.Played.{Plays, Played, Seen, Notes, Leads, AllHonestRules, Honest, HonestMaybe, state, trees, found_tree, itself}
+use Rattle.wl_eval.specs.Replacing.{AllHonestMaybe, IsMade, IsRebuilt, IsRuleFrom, MaybeRulesFrom, each_of, fitting, joined, part_of, pushed, replacing, replacing_each, seen_replaced}
 use Rattle.wl_eval.specs.declared.evaluator.Evaluator.{Evaluator}
 use Rattle.wl_eval.specs.declared.replace_rows.Replaced.{Replaced}
+use Rattle.wl_eval.specs.declared.replace_rows.ReplacedEach.{ReplacedEach}
 use Rattle.wl_eval.specs.declared.replace_rows.Replaced.TheVariants as replaced
 use Rattle.wl_eval.specs.declared.ends.Stop.{Stop}
 use Rattle.wl_eval.specs.declared.ends.Stop.TheVariants as stops
 use Rattle.wl_eval.proofs.Bind.{interp-bind, then_none}
 use Rattle.wl_eval.proofs.Bindings.{bind_assoc, drop_item}
 use Rattle.wl_eval.proofs.MatchRowParts.{elements_at}
-use Rattle.wl_eval.proofs.Matches.{leads_in, no_some}
-use Rattle.wl_eval.proofs.Playing.{plays_bind, plays_stop, plays_done_is}
+use Rattle.wl_eval.proofs.Matches.{leads_in, leads_out, no_some}
+use Rattle.wl_eval.proofs.Playing.{plays_bind, plays_stop, plays_done, plays_done_is}
+use Rattle.std.proofs.lemmas.Result.{err_from_is_err_and}
+use Rattle.wl_eval.proofs.Rows.{all_later, leads_played}
 use Rattle.wl_eval.proofs.Rounds.{node_makes}
-use Rattle.wl_eval.proofs.Values.{built_honest, list_of_plains, plains_trees}
+use Rattle.wl_eval.proofs.Values.{built_honest, list_of_plains, passed_honest, plains_trees}
 
 -- ---- sizes
 
@@ -284,6 +290,35 @@ pushed_honest k None u a b = tt
 pushed_honest k (Some us) None a b = tt
 pushed_honest k (Some us) (Some u) a b = All-push (Honest k) us u a b
 
+take_more : {A : Type 0} (xs : List A) (i : ℕ) (x : A) → i < length xs → x ≡ get_or xs i x → take (i + 1) xs ≡ take i xs ++ x ∷ []
+take_more [] i x h e = absurd (omega (arith, h))
+take_more (y ∷ ys) zero x h e = ap (λ z. z ∷ []) (sym e)
+take_more (y ∷ ys) (suc i) x h e = ap (λ n. take n (y ∷ ys)) (let q : suc i + 1 ≡ suc (i + 1) = omega arith in q) ∙ ap (λ z. y ∷ z) (take_more ys i x (omega (arith, h)) e)
+
+pub take_whole : {A : Type 0} (xs : List A) (i : ℕ) → length xs ≤ i → take i xs ≡ xs
+take_whole [] zero h = refl
+take_whole [] (suc i) h = refl
+take_whole (x ∷ xs) zero h = absurd (omega (arith, h))
+take_whole (x ∷ xs) (suc i) h = ap (λ z. x ∷ z) (take_whole xs i (omega (arith, h)))
+
+module _ (xs : List Stamped) (i : ℕ) (x : Stamped) (before after : ReplacedEach) (part : Replaced) (l : i < length xs) (e : x ≡ get_or xs i x) (q : each_of (take i xs ++ x ∷ []) after ≡ pushed (each_of (take i xs) before) (part_of x part)) where
+  each_after : each_of (take (i + 1) xs) after ≡ pushed (each_of (take i xs) before) (part_of x part)
+  each_after = ap (λ z. each_of z after) (take_more xs i x l e) ∙ q
+
+  pub each_leads : (rs : List PlainRule) (w : Prog (Option (List Tree))) (k0 k k1 : Evaluator) → Plays (replacing rs (plain x)) k (Ok (option_map plain (part_of x part))) k1 false
+      → Leads w k0 (replacing_each (option_map trees (each_of (take i xs) before)) rs (trees (drop i xs))) k → Leads w k0 (replacing_each (option_map trees (each_of (take (i + 1) xs) after)) rs (trees (drop (i + 1) xs))) k1
+  each_leads rs w k0 k k1 h m =
+      let us = option_map trees (each_of (take i xs) before) in
+      let on = leads_in w _ (replacing rs (plain x)) _ k0 k k1 _ m (each_next us rs xs i x l e) h in
+      subst (λ z. Leads w k0 (replacing_each z rs (trees (drop (i + 1) xs))) k1) (sym (ap (option_map trees) each_after ∙ pushed_trees (each_of (take i xs) before) (part_of x part))) on
+
+  pub each_honest : (k : Evaluator) → AllHonestMaybe k (each_of (take i xs) before) → HonestMaybe k (part_of x part) → AllHonestMaybe k (each_of (take (i + 1) xs) after)
+  each_honest k a b = subst (AllHonestMaybe k) (sym each_after) (pushed_honest k (each_of (take i xs) before) (part_of x part) a b)
+
+pub each_later : {R : Type 0} {p : Prog R} {k k1 : Evaluator} {r : Result R End} {o : Bool} → Plays p k r k1 o → (us : Option (List Stamped)) → AllHonestMaybe k us → AllHonestMaybe k1 us
+each_later h None a = tt
+each_later h (Some us) a = all_later h us a
+
 -- ---- what a program gave, before a function was taken of it
 
 pub record Came {A B : Type 0} (p : Prog A) (f : A → B) (k k1 : Evaluator) (v : B) (o : Bool) : Type 0 where
@@ -379,3 +414,70 @@ pub record Passing (n : ℕ) (rs : List PlainRule) (t : Tree) (k0 : Evaluator) (
   pub left : ℕ
   pub enough : k.steps < left
   pub leads : Leads (replace_repeated n rs t) k0 (replace_repeated left rs u) k
+
+pub passing_begins : (n : ℕ) (rs : List PlainRule) (t : Tree) (k : Evaluator) → k.steps < n → Passing n rs t k t k
+passing_begins n rs t k h = record { left = n; enough = h; leads = λ r k2 o m. m }
+
+-- what follows the step of a pass
+abbrev pub passes_on : ℕ → List PlainRule → Tree → Prog (Option Tree)
+passes_on n rs e = replace_all rs e >>= λ u. value_of_built u >>= λ v. again n rs e v (same v e)
+
+-- a pass that has taken its step
+pub record Stepped (n : ℕ) (rs : List PlainRule) (t : Tree) (k0 : Evaluator) (u : Tree) (k k1 : Evaluator) : Type 0 where
+  pub left : ℕ
+  pub enough : k.steps < left + 1
+  pub leads : Leads (replace_repeated n rs t) k0 (passes_on left rs u) k1
+
+pub pass_steps : (n : ℕ) (rs : List PlainRule) (t : Tree) (k0 : Evaluator) (u : Tree) (k k1 : Evaluator) → Passing n rs t k0 u k → Plays tick k (Ok tt) k1 false → Stepped n rs t k0 u k k1
+pass_steps n rs t k0 u k k1 p h = by p.left p.enough p.leads
+  where
+    by : (m : ℕ) → k.steps < m → Leads (replace_repeated n rs t) k0 (replace_repeated m rs u) k → Stepped n rs t k0 u k k1
+    by zero e l = absurd (omega (arith, e))
+    by (suc m) e l = record { left = m; enough = omega (arith, e); leads = leads_in _ _ tick (λ _. passes_on m rs u) k0 k k1 tt l (repeated_is m rs u) h }
+
+pub step_stops : {X : Type 0} (seen : Seen X (Option Tree)) (n : ℕ) (rs : List PlainRule) (t : Tree) (k0 : Evaluator) (u : Tree) (k k1 : Evaluator) (r : Result X Stop) (e : Stop) → Passing n rs t k0 u k → IsErrAnd r (λ d. d ≡ e) → Played itself tick k (Err e) k1 → Played seen (replace_repeated n rs t) k0 r k1
+step_stops seen n rs t k0 u k k1 r e p q h = by p.left p.enough p.leads
+  where
+    by : (m : ℕ) → k.steps < m → Leads (replace_repeated n rs t) k0 (replace_repeated m rs u) k → Played seen (replace_repeated n rs t) k0 r k1
+    by zero x l = absurd (omega (arith, x))
+    by (suc m) x l = leads_out itself seen _ _ tick (λ _. passes_on m rs u) k0 k k1 r e l (repeated_is m rs u) q h
+
+-- the value is the same, or the next pass begins with it
+pub pass_ends : (w : Prog (Option Tree)) (n : ℕ) (rs : List PlainRule) (e v : Tree) (k0 k : Evaluator) (b : Bool) → (b ≡ true ↔ v ≡ e) → b ≡ true → Leads w k0 (again n rs e v (same v e)) k → Plays w k0 (Ok (Some e)) k false
+pass_ends w n rs e v k0 k b d h l = subst (λ z. Leads w k0 (again n rs e v z) k) ((same_decides v e).1 (d.0 h)) l _ _ _ plays_done
+
+pub pass_goes : (w : Prog (Option Tree)) (n : ℕ) (rs : List PlainRule) (e v : Tree) (k0 k : Evaluator) (b : Bool) → (b ≡ true ↔ v ≡ e) → b ≡ false → Leads w k0 (again n rs e v (same v e)) k → Leads w k0 (replace_repeated n rs v) k
+pass_goes w n rs e v k0 k b d h l = by (same v e) refl
+  where
+    by : (c : Bool) → same v e ≡ c → Leads w k0 (replace_repeated n rs v) k
+    by true q = absurd (true≢false (sym (d.1 ((same_decides v e).0 q)) ∙ h))
+    by false q = subst (λ z. Leads w k0 (again n rs e v z) k) q l
+
+-- ---- rows by their rules
+
+pub replace_is : (e r : Tree) (o : Option (List PlainRule)) → o ≡ rules_in r → replace_row (e ∷ r ∷ []) ≡ replace_by e o
+replace_is e r o h = ap (replace_by e) (sym h)
+
+pub replace_all_is : (e r : Tree) (o : Option (List PlainRule)) → o ≡ rules_in r → replace_all_row (e ∷ r ∷ []) ≡ replace_all_by e o
+replace_all_is e r o h = ap (replace_all_by e) (sym h)
+
+pub replace_repeated_is : (e r : Tree) (o : Option (List PlainRule)) → o ≡ rules_in r → replace_repeated_row (e ∷ r ∷ []) ≡ replace_repeated_by e o
+replace_repeated_is e r o h = ap (replace_repeated_by e) (sym h)
+
+-- the rules that were read are honest
+pub read_honest : (k : Evaluator) (p : Stamped) (o : Option (Vec Rule Global)) (v : Vec Rule Global) → ((ms : List Stamped) → IsFrom ms p → MaybeRulesFrom ms o) → o ≡ Some v → Honest k p → AllHonestRules k v.items
+read_honest k p o v f e h i d l =
+    let g : (ms : List Stamped) → IsFrom ms p → All (IsRuleFrom ms) v.items = λ ms m. subst (MaybeRulesFrom ms) e (f ms m) in
+    (passed_honest k.store p (slice_index_or v.items i d).left (λ ms m. (g ms m i d l).0) h, passed_honest k.store p (slice_index_or v.items i d).body (λ ms m. (g ms m i d l).1) h)
+
+pub read_is : (o : Option (Vec Rule Global)) (v : Vec Rule Global) (x : Option (List PlainRule)) → o ≡ Some v → option_map (λ (u : Vec Rule Global). map plain_rule u.items) o ≡ x → Some (map plain_rule v.items) ≡ x
+read_is o v x e h = ap (option_map (λ (u : Vec Rule Global). map plain_rule u.items)) (sym e) ∙ h
+
+pub pass_stops : {X : Type 0} (seen : Seen X (Option Tree)) (n : ℕ) (rs : List PlainRule) (t : Tree) (k0 : Evaluator) (x : Stamped) (k k1 k2 : Evaluator) (r : Result X Stop) (e : Stop) → Stepped n rs t k0 (plain x) k k1 → IsErrAnd r (λ d. d ≡ e)
+    → Played (seen_replaced x) (replacing rs (plain x)) k1 (Err e) k2 → Played seen (replace_repeated n rs t) k0 r k2
+pass_stops seen n rs t k0 x k k1 k2 r e s q h =
+    let p = err_from_is_err_and r q in
+    leads_played seen _ (passes_on s.left rs (plain x)) k0 k1 r k2 s.leads (subst (λ z. Played seen (passes_on s.left rs (plain x)) k1 z k2) (sym (p.1 ∙ ap Err p.2)) (replacing_stops (seen_replaced x) seen rs (plain x) _ k1 e k2 h))
+
+pub none_is : (rs : List PlainRule) (e : Tree) (k k1 : Evaluator) (o : Option Stamped) → Played found_tree (trial rs e) k (Ok o) k1 → ((x : Stamped) → o ≡ Some x → ⊥) → Plays (trial rs e) k (Ok None) k1 false
+none_is rs e k k1 o h n = let m : Played found_tree (trial rs e) k (Ok None) k1 = subst (λ z. Played found_tree (trial rs e) k (Ok z) k1) (no_some o n) h in m.0

@@ -189,13 +189,13 @@ impl Evaluator {
         ensures played { Played found_tree (sized_row (rows.replace_repeated_row (trees args.now))) self.old result self.new }
         ensures falls { self.new.steps ≤ self.old.steps }
     {
+        let _steps = self.steps;
         let Some((e, r)) = pair(args) else {
             return Ok(None);
         };
         let Some(rules) = rules_in(self.alloc, r)? else {
             return Ok(None);
         };
-        let _steps = self.steps;
         let last = self.replace_repeated(rules.as_slice(), e, work)?;
         // That it fits is a clause of `weight`.
         let _weight = last.weight();

@@ -47,13 +47,17 @@ use Rattle.wl_eval.specs.Searching.{HonestView, found_by, next_binding, next_fou
 use Rattle.wl_eval.proofs.Bindings.{after_binding, after_tests, all_tests, if_so, or_more, passes_is, test_within, tests_is, tests_over, walk_is}
 use Rattle.wl_eval.proofs.Matches.{all_view_honest, asks_applies, asks_holds, asks_refuses, each_at, each_leads, each_over, exit, fill_on, filled_leads, filled_makes, filling_is, filling_leads, found_none, found_some, guard_on, guarded_leads, both_not, held, kept_honest, leads_in, leads_out, made_honest, match_found, match_over, matches_played, next_so, no_test, not_filled, not_held, not_so, one_makes, refuses_one, refuses_other, rule_played, sized_leads, test_found, tests_at, tests_begin, tests_end, trial_at, trial_leads, trial_over, unguarded, view_honest, walk_found, walk_over}
 use Rattle.wl_expr.specs.Words.{list_of}
+use Rattle.std.proofs.Common.{take}
 use Rattle.wl_expr.specs.Tree as tree
+use Rattle.wl_eval.proofs.Rows.{option_later}
+use Rattle.wl_expr.proofs.Small.{fits_decides}
+use Rattle.wl_eval.specs.Played.{AllHonestRules}
 use Rattle.wl_eval.specs.MatchRows as match_rows
 use Rattle.wl_eval.specs.Replacing.{found_trees}
 use Rattle.wl_eval.proofs.MatchRowParts.{any_at, any_none, args_depth, element_depth, listed_honest, node_honest, pair_honest, rule_honest, cases_at, cases_leads, cases_over, count_at, count_over, delete_atom, delete_node, elements_over, leads_to, nothing_more, one_more, pair_is, pair_row, pair_stays, part_at, part_is, part_leads, part_node, part_none, row_exit, row_truth, sifted_at, sifted_leads, sifted_over}
 use Rattle.wl_eval.proofs.RowParts.{row_at, row_gives, row_made}
-use Rattle.wl_eval.specs.Replacing.{replacing_each, seen_each, seen_replaced}
-use Rattle.wl_eval.proofs.ReplaceRowParts.{below_leads, each_next, each_over, leaf_replaced, node_below, pushed_honest, pushed_trees, rebuilt_honest, rebuilt_is, replacing_is, result_replaced, trial_next}
+use Rattle.wl_eval.specs.Replacing.{AllHonestMaybe, each_of, part_of, replacing, replacing_each, seen_each, seen_replaced, seen_result}
+use Rattle.wl_eval.proofs.ReplaceRowParts.{below_leads, each_next, each_over, leaf_replaced, node_below, pushed_honest, pushed_trees, rebuilt_honest, rebuilt_is, replacing_is, result_replaced, step_stops, trial_next, became, each_honest, each_later, each_leads, none_is, pass_ends, pass_goes, pass_steps, pass_stops, read_honest, read_is, replace_all_is, replace_is, replace_repeated_is, take_whole}
 use Rattle.wl_eval.proofs.evaluator.Evaluator.+eval.Goals as goal
 
 -- ---- which rule applies
@@ -1474,3 +1478,206 @@ replace_all-returns-in_default-view-clause-played g t c =
     let e = c.args.e.now in
     let on = below_leads rs e _ _ c.in_ok-found.found c.in_ok-found.ensures.played c.in_default.not-Some in
     leaf_replaced rs e _ _ _ (no_node _ _ _ c.view.ensures.all c.in_default-view.not-Node) c.view.ensures.fits (later c.in_ok-found.ensures.played.0 _ c.requires.honest) on
+
+pub replace_all-returns-in_err-new_head-clause-played : goal.replace_all-returns-in_err-new_head-clause-played
+replace_all-returns-in_err-new_head-clause-played g t c =
+    let rs = map plain_rule c.args.rules.now in
+    let e = c.args.e.now in
+    let on = below_leads rs e _ _ c.in_ok-found.found c.in_ok-found.ensures.played c.in_default.not-Some in
+    leads_out (seen_replaced c.in-Node.head.now) (seen_replaced e) _ _ _ _ _ _ _ _ _ on (node_below rs (plain e) (plain c.in-Node.head.now) c.in-Node.args.now c.in-Node.ensures.plain) c.from_residual-in_err-new_head.ensures.1 c.in_err-new_head.ensures.played
+
+pub replace_all-replace_each-requires : goal.replace_all-replace_each-requires
+replace_all-replace_each-requires g t c κs within =
+    let h = c.in_ok-found.ensures.played.0 in
+    let m = c.in_ok-new_head.ensures.played.0 in
+    let d = args_depth (plain c.in-Node.head.now) (plain c.args.e.now) c.in-Node.args.now c.in-Node.ensures.plain in
+    (omega (arith, d, c.in_ok-found.ensures.falls, c.in_ok-new_head.ensures.falls), (within, (m.sound (h.sound c.requires.sound), (rules_later m _ (rules_later h _ c.requires.rules), all_later m _ (all_later h _ (args_honest c.args.self.now.store _ _ _ _ c.in-Node.ensures.all c.requires.honest))))))
+
+pub replace_all-returns-in_err-elements-clause-played : goal.replace_all-returns-in_err-elements-clause-played
+replace_all-returns-in_err-elements-clause-played g t c =
+    let rs = map plain_rule c.args.rules.now in
+    let e = c.args.e.now in
+    let on = below_leads rs e _ _ c.in_ok-found.found c.in_ok-found.ensures.played c.in_default.not-Some in
+    let next = leads_in _ _ _ _ _ _ _ _ on (node_below rs (plain e) (plain c.in-Node.head.now) c.in-Node.args.now c.in-Node.ensures.plain) c.in_ok-new_head.ensures.played.0 in
+    leads_out (seen_each c.in-Node.args.now) (seen_replaced e) _ _ _ _ _ _ _ _ _ next refl c.from_residual-in_err-elements.ensures.1 c.in_err-elements.ensures.played
+
+pub replace_all-returns-clause-played : goal.replace_all-returns-clause-played
+replace_all-returns-clause-played g t c =
+    let rs = map plain_rule c.args.rules.now in
+    let e = c.args.e.now in
+    let h = c.in-Node.head.now in
+    let es = c.in-Node.args.now in
+    let k2 = c.replace_each.new.self in
+    let made = c.in_ok-rebuilt.field-0 in
+    let on = below_leads rs e _ _ c.in_ok-found.found c.in_ok-found.ensures.played c.in_default.not-Some in
+    let next = leads_in _ _ _ _ _ _ _ _ on (node_below rs (plain e) (plain h) es c.in-Node.ensures.plain) c.in_ok-new_head.ensures.played.0 in
+    let m = c.in_ok-new_head.ensures.played in
+    let n = c.in_ok-elements.ensures.played in
+    let is = rebuilt_is e h es c.in-Node.ensures.plain c.view.ensures.fits (part_of h c.in_ok-new_head.new_head) (each_of es c.in_ok-elements.elements) made c.in_ok-rebuilt.ensures in
+    (leads_in _ _ _ _ _ _ _ _ next refl n.0 _ _ _ (plays_done_is (sym is)),
+     rebuilt_honest e h es c.in-Node.ensures.plain c.view.ensures.fits k2 (part_of h c.in_ok-new_head.new_head) (each_of es c.in_ok-elements.elements) made c.in_ok-rebuilt.ensures
+     (later n.0 _ (later m.0 _ (later c.in_ok-found.ensures.played.0 _ c.requires.honest))) (option_later n.0 _ m.1) n.1)
+
+pub replace_each-replace_all-requires : goal.replace_each-replace_all-requires
+replace_each-replace_all-requires g t c κs within =
+    let l = c.loop-i in
+    let x = c.index-args-i.result in
+    let d = element_depth c.args.args.now l.i x (omega arith) c.index-args-i.is in
+    (omega (arith, d, l.invariant.falls), (within, (l.invariant.sound, (l.invariant.rules, subst (Honest l.self) (sym c.index-args-i.is) (l.invariant.args l.i x (omega arith))))))
+
+pub replace_each-returns-in_err-part-clause-played : goal.replace_each-returns-in_err-part-clause-played
+replace_each-returns-in_err-part-clause-played g t c =
+    let l = c.loop-i in
+    let x = c.index-args-i.result in
+    let us = option_map trees (each_of (take l.i c.args.args.now) l.before) in
+    leads_out (seen_replaced x) (seen_each c.args.args.now) _ _ _ _ _ _ _ _ _ l.invariant.leads (each_next us (map plain_rule c.args.rules.now) c.args.args.now l.i x (omega arith) c.index-args-i.is) c.from_residual.ensures.1 c.in_err-part.ensures.played
+
+pub replace_each-loop-i-preserved : goal.replace_each-loop-i-preserved
+replace_each-loop-i-preserved g t c =
+    let l = c.loop-i in
+    let xs = c.args.args.now in
+    let x = c.index-args-i.result in
+    let k1 = c.replace_all.new.self in
+    let h = c.in_ok-part.ensures.played in
+    record {
+      leads = each_leads xs l.i x l.before c.in_ok-before.before c.in_ok-part.part (omega arith) c.index-args-i.is c.in_ok-before.ensures (map plain_rule c.args.rules.now) _ _ _ _ h.0 l.invariant.leads;
+      sound = h.0.sound l.invariant.sound;
+      rules = rules_later h.0 _ l.invariant.rules;
+      args = all_later h.0 _ l.invariant.args;
+      before = each_honest xs l.i x l.before c.in_ok-before.before c.in_ok-part.part (omega arith) c.index-args-i.is c.in_ok-before.ensures k1 (each_later h.0 _ l.invariant.before) h.1;
+      falls = omega (arith, c.in_ok-part.ensures.falls, l.invariant.falls);
+    }
+
+pub replace_each-returns-clause-played : goal.replace_each-returns-clause-played
+replace_each-returns-clause-played g t c =
+    let l = c.loop-i in
+    let xs = c.args.args.now in
+    let rs = map plain_rule c.args.rules.now in
+    let us = option_map trees (each_of (take l.i xs) l.before) in
+    let w = take_whole xs l.i (omega arith) in
+    (subst (λ z. Plays (replacing_each (Some []) rs (trees xs)) c.args.self.now (Ok (option_map trees (each_of z l.before))) l.self false) w (elements_over (replacing_each us rs) us xs l.i _ _ _ (each_over us rs) (omega arith) l.invariant.leads),
+     subst (λ z. AllHonestMaybe l.self (each_of z l.before)) w l.invariant.before)
+
+pub replace_repeated-returns-in_err-take_step-clause-played : goal.replace_repeated-returns-in_err-take_step-clause-played
+replace_repeated-returns-in_err-take_step-clause-played g t c n l =
+    let s = c.loop-subject in
+    step_stops seen_result n (map plain_rule c.args.rules.now) (plain c.args.first.now) _ (plain s.subject) _ _ _ _ (s.invariant.passing n l) c.from_residual-in_err-take_step.ensures.1 c.in_err-take_step.ensures.played
+
+pub replace_repeated-returns-in_err-replaced-clause-played : goal.replace_repeated-returns-in_err-replaced-clause-played
+replace_repeated-returns-in_err-replaced-clause-played g t c n l =
+    let s = c.loop-subject in
+    let rs = map plain_rule c.args.rules.now in
+    let first = plain c.args.first.now in
+    let u = plain s.subject in
+    let pass = pass_steps n rs first c.args.self.now u s.self c.take_step.new.self (s.invariant.passing n l) c.in_ok-take_step.ensures.played.0 in
+    pass_stops seen_result n rs first _ s.subject _ _ _ _ _ pass c.from_residual-in_err-replaced.ensures.1 c.in_err-replaced.ensures.played
+
+pub replace_repeated-returns-in_err-value-clause-played : goal.replace_repeated-returns-in_err-value-clause-played
+replace_repeated-returns-in_err-value-clause-played g t c n l =
+    let s = c.loop-subject in
+    let rs = map plain_rule c.args.rules.now in
+    let first = plain c.args.first.now in
+    let u = plain s.subject in
+    let pass = pass_steps n rs first c.args.self.now u s.self c.take_step.new.self (s.invariant.passing n l) c.in_ok-take_step.ensures.played.0 in
+    let came = became rs u c.take_step.new.self c.replace_all.new.self _ c.in_ok-replaced.ensures.played.0 in
+    let makes = c.made.ensures.value came.it came.gives in
+    let on = leads_in _ _ _ _ _ _ _ came.it pass.leads refl came.plays in
+    leads_out value seen_result _ _ _ _ _ _ _ _ _ on refl c.from_residual-in_err-value.ensures.1 (c.in_err-value.ensures.played came.it makes)
+
+pub replace_repeated-returns-then-same-clause-played : goal.replace_repeated-returns-then-same-clause-played
+replace_repeated-returns-then-same-clause-played g t c n l =
+    let s = c.loop-subject in
+    let rs = map plain_rule c.args.rules.now in
+    let first = plain c.args.first.now in
+    let u = plain s.subject in
+    let pass = pass_steps n rs first c.args.self.now u s.self c.take_step.new.self (s.invariant.passing n l) c.in_ok-take_step.ensures.played.0 in
+    let came = became rs u c.take_step.new.self c.replace_all.new.self _ c.in_ok-replaced.ensures.played.0 in
+    let makes = c.made.ensures.value came.it came.gives in
+    let on = leads_in _ _ _ _ _ _ _ came.it pass.leads refl came.plays in
+    let v = c.in_ok-value.ensures.played came.it makes in
+    (pass_ends _ pass.left rs u (plain c.in_ok-value.value) _ _ c.same.result c.same.ensures c.if-same.true (leads_in _ _ _ _ _ _ _ _ on refl v.0),
+     later v.0 _ (later c.in_ok-replaced.ensures.played.0 _ (later c.in_ok-take_step.ensures.played.0 _ s.invariant.honest)))
+
+pub replace_repeated-loop-subject-preserved : goal.replace_repeated-loop-subject-preserved
+replace_repeated-loop-subject-preserved g t c =
+    let s = c.loop-subject in
+    let rs = map plain_rule c.args.rules.now in
+    let first = plain c.args.first.now in
+    let u = plain s.subject in
+    let step = c.in_ok-take_step.ensures.played.0 in
+    let parts = c.in_ok-replaced.ensures.played.0 in
+    let came = became rs u c.take_step.new.self c.replace_all.new.self _ parts in
+    let makes = c.made.ensures.value came.it came.gives in
+    let v = c.in_ok-value.ensures.played came.it makes in
+    record {
+      passing = λ n l.
+          let pass = pass_steps n rs first c.args.self.now u s.self c.take_step.new.self (s.invariant.passing n l) step in
+          let on = leads_in _ _ _ _ _ _ _ came.it pass.leads refl came.plays in
+          record {
+            left = pass.left;
+            enough = omega (arith, pass.enough, c.in_ok-take_step.ensures.less, c.in_ok-replaced.ensures.falls, c.in_ok-value.ensures.falls);
+            leads = pass_goes _ pass.left rs u (plain c.in_ok-value.value) _ _ c.same.result c.same.ensures c.if-same.false (leads_in _ _ _ _ _ _ _ _ on refl v.0);
+          };
+      sound = v.0.sound (parts.sound (step.sound s.invariant.sound));
+      rules = rules_later v.0 _ (rules_later parts _ (rules_later step _ s.invariant.rules));
+      honest = v.1.0;
+      falls = omega (arith, s.invariant.falls, c.in_ok-take_step.ensures.falls, c.in_ok-replaced.ensures.falls, c.in_ok-value.ensures.falls);
+    }
+
+pub replace_all_row-replace_all-requires : goal.replace_all_row-replace_all-requires
+replace_all_row-replace_all-requires g t c κs within =
+    let k = c.args.self.now in
+    let h = pair_honest k c.args.args.now c.in-Some.e.now c.in-Some.r.now c.in-Some.ensures c.requires.args in
+    let rs = read_honest k c.in-Some.r.now c.in_ok-rules.field-0 c.in-Some-2.rules c.in_ok-rules.ensures.passed c.in-Some-2.is h.1 in
+    (omega (arith, c.depth-depth.ensures.fits.shallow), (within, (c.requires.sound, (subst (AllHonestRules k) (sym c.as_slice.ensures.value) rs, h.0))))
+
+pub replace_all_row-returns-clause-played : goal.replace_all_row-returns-clause-played
+replace_all_row-returns-clause-played g t c =
+    let e = c.in-Some.e.now in
+    let r = c.in-Some.r.now in
+    let rs = map plain_rule c.in-Some-2.rules.items in
+    let is = read_is c.in_ok-rules.field-0 c.in-Some-2.rules _ c.in-Some-2.is c.in_ok-rules.ensures.rules in
+    let same = ap (map plain_rule) c.as_slice.ensures.value in
+    let h = subst (λ zs. Plays (replacing zs (plain e)) c.args.self.now (Ok (option_map plain (part_of e c.in_ok-replaced.replaced))) c.replace_all.new.self false) same c.in_ok-replaced.ensures.played.0 in
+    let came = became rs (plain e) _ _ _ h in
+    pair_row found_tree match_rows.replace_all_row c.args.args.now e r _ _ _ c.in-Some.ensures
+    (row_at _ _ _ _ _ (replace_all_is (plain e) (plain r) (Some rs) is) (row_made _ came.it _ _ _ _ (plays_bind _ _ came.plays plays_done) (c.given.ensures.played came.it (c.made.ensures.value came.it came.gives))))
+
+pub replace_repeated_row-replace_repeated-requires : goal.replace_repeated_row-replace_repeated-requires
+replace_repeated_row-replace_repeated-requires g t c κs within =
+    let k = c.args.self.now in
+    let h = pair_honest k c.args.args.now c.in-Some.e.now c.in-Some.r.now c.in-Some.ensures c.requires.args in
+    let rs = read_honest k c.in-Some.r.now c.in_ok-rules.field-0 c.in-Some-2.rules c.in_ok-rules.ensures.passed c.in-Some-2.is h.1 in
+    (search rules, (within, (c.requires.sound, (subst (AllHonestRules k) (sym c.as_slice.ensures.value) rs, h.0))))
+
+pub replace_repeated_row-returns-in_err-last-clause-played : goal.replace_repeated_row-returns-in_err-last-clause-played
+replace_repeated_row-returns-in_err-last-clause-played g t c =
+    let e = c.in-Some.e.now in
+    let r = c.in-Some.r.now in
+    let rs = map plain_rule c.in-Some-2.rules.items in
+    let is = read_is c.in_ok-rules.field-0 c.in-Some-2.rules _ c.in-Some-2.is c.in_ok-rules.ensures.rules in
+    let same = ap (map plain_rule) c.as_slice.ensures.value in
+    let h = subst (λ zs. Played seen_result (match_rows.replace_repeated (2 ^ 64) zs (plain e)) c.args.self.now (Err c.in_err-last.field-0.0) c.replace_repeated.new.self) same (c.in_err-last.ensures.played (2 ^ 64) (omega arith)) in
+    pair_row found_tree match_rows.replace_repeated_row c.args.args.now e r _ _ _ c.in-Some.ensures
+    (row_at _ _ _ _ _ (replace_repeated_is (plain e) (plain r) (Some rs) is) (exit seen_result found_tree _ _ _ _ _ _ c.from_residual-in_err-last.ensures.1 h))
+
+pub replace_row-first_result-requires : goal.replace_row-first_result-requires
+replace_row-first_result-requires g t c κs within =
+    let k = c.args.self.now in
+    let h = pair_honest k c.args.args.now c.in-Some.e.now c.in-Some.r.now c.in-Some.ensures c.requires.args in
+    let rs = read_honest k c.in-Some.r.now c.in_ok-rules.field-0 c.in-Some-2.rules c.in_ok-rules.ensures.passed c.in-Some-2.is h.1 in
+    (search rules, (within, (c.requires.sound, (subst (AllHonestRules k) (sym c.as_slice.ensures.value) rs, h.0))))
+
+pub replace_row-returns-in_default-found-clause-played : goal.replace_row-returns-in_default-found-clause-played
+replace_row-returns-in_default-found-clause-played g t c =
+    let e = c.in-Some.e.now in
+    let r = c.in-Some.r.now in
+    let rs = map plain_rule c.in-Some-2.rules.items in
+    let is = read_is c.in_ok-rules.field-0 c.in-Some-2.rules _ c.in-Some-2.is c.in_ok-rules.ensures.rules in
+    let same = ap (map plain_rule) c.as_slice.ensures.value in
+    let h = subst (λ zs. Played found_tree (matching.trial zs (plain e)) c.args.self.now (Ok c.in_ok-found.found) c.first_result.new.self) same c.in_ok-found.ensures.played in
+    let none = none_is rs (plain e) _ _ c.in_ok-found.found h c.in_default-found.not-Some in
+    let honest = later none _ (pair_honest c.args.self.now c.args.args.now e r c.in-Some.ensures c.requires.args).0 in
+    subst (λ z. Played found_tree (sized_row (match_rows.replace_row (trees c.args.args.now))) c.args.self.now (Ok (Some z)) c.first_result.new.self) (sym c.in_ok-copy.ensures)
+    (pair_row found_tree match_rows.replace_row c.args.args.now e r _ _ _ c.in-Some.ensures
+    (row_at _ _ _ _ _ (replace_is (plain e) (plain r) (Some rs) is) (row_gives _ _ _ e (plays_bind (matching.trial rs (plain e)) _ none plays_done) ((fits_decides (plain e)).1 c.weight-weight.ensures.fits) honest)))
