@@ -47,3 +47,6 @@ mod Targeting
 mod Setting
 mod Updating
 mod DefiningRows
+mod MatchRowParts
+mod ReadRules
+mod ReplaceRowParts

@@ -136,6 +136,16 @@ impl Evaluator {
             Kind::Out => self.out_row(args),
             Kind::In => self.in_row(args),
             // The other rows come here.
+            Kind::MatchQ => self.match_row(args, work),
+            Kind::MemberQ => self.member_row(args, work),
+            Kind::Count => self.count_row(args, work),
+            Kind::Cases => self.cases_row(args, work),
+            Kind::DeleteCases => self.delete_cases_row(args, work),
+            Kind::FreeQ => self.free_row(args, work),
+            Kind::Replace => self.replace_row(args, work),
+            Kind::ReplaceAll => self.replace_all_row(args, work),
+            Kind::ReplaceRepeated => self.replace_repeated_row(args, work),
+            // The others come here.
             _ => Err(Stop::Memory),
         }
     }

@@ -12,6 +12,7 @@ ghost use Rattle.wl_eval.specs.Honest.{HonestIn};
 ghost use Rattle.wl_eval.specs.Operands.{listed, only_name, two_trees};
 ghost use Rattle.wl_eval.specs.Played.{Honest, Makes, Played, found_tree, trees};
 ghost use Rattle.wl_eval.specs.Prepared.{name_and_one, name_and_two, only_tree};
+ghost use Rattle.wl_eval.specs.Replacing.{pair};
 ghost use Rattle.std.specs.Prelude.{Some, None};
 
 use crate::elements::is_symbol;
@@ -53,6 +54,16 @@ pub(crate) fn only(args: &[Expr]) -> Option<&Expr>
 {
     match args {
         [e] => Some(e),
+        _ => None,
+    }
+}
+
+/// The two elements of a row, as they are.
+pub(crate) fn pair(args: &[Expr]) -> Option<(&Expr, &Expr)>
+    ensures { option_map (λ p. (p.0.now, p.1.now)) result ≡ pair args.now }
+{
+    match args {
+        [a, b] => Some((a, b)),
         _ => None,
     }
 }

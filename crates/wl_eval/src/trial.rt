@@ -47,6 +47,29 @@ impl Evaluator {
         Ok(None)
     }
 
+    /// The result of the first of these rules, which were read in an expression, that applies.
+    #[cycle(eval)]
+    pub(crate) fn first_result<L: Ledger>(
+        &mut self,
+        rules: &[Rule],
+        e: &Expr,
+        work: &mut Work<L>,
+    ) -> Result<Option<Expr>, Stop>
+        requires sound { Sound self.old }
+        requires rules { AllHonestRules self.old rules.now }
+        requires honest { Honest self.old e.now }
+        ensures played { Played found_tree (matching.trial (map plain_rule rules.now) (plain e.now)) self.old result self.new }
+        ensures falls { self.new.steps ≤ self.old.steps }
+    {
+        for i in 0..rules.len() {
+            let found = self.rule_result(&rules[i], e, work)?;
+            if let Some(result) = found {
+                return Ok(Some(result));
+            }
+        }
+        Ok(None)
+    }
+
     /// The result of a rule, where it applies.
     #[cycle(eval)]
     pub(crate) fn rule_result<L: Ledger>(

@@ -46,6 +46,18 @@ use Rattle.wl_shape.specs.Fill.{fill_binding}
 use Rattle.wl_eval.specs.Searching.{HonestView, found_by, next_binding, next_found, passes_within, refuses_within, tests_within, true_of_built}
 use Rattle.wl_eval.proofs.Bindings.{after_binding, after_tests, all_tests, if_so, or_more, passes_is, test_within, tests_is, tests_over, walk_is}
 use Rattle.wl_eval.proofs.Matches.{all_view_honest, asks_applies, asks_holds, asks_refuses, each_at, each_leads, each_over, exit, fill_on, filled_leads, filled_makes, filling_is, filling_leads, found_none, found_some, guard_on, guarded_leads, both_not, held, kept_honest, leads_in, leads_out, made_honest, match_found, match_over, matches_played, next_so, no_test, not_filled, not_held, not_so, one_makes, refuses_one, refuses_other, rule_played, sized_leads, test_found, tests_at, tests_begin, tests_end, trial_at, trial_leads, trial_over, unguarded, view_honest, walk_found, walk_over}
+use Rattle.wl_expr.specs.Words.{list_of}
+use Rattle.std.proofs.Common.{take}
+use Rattle.wl_expr.specs.Tree as tree
+use Rattle.wl_eval.proofs.Rows.{option_later}
+use Rattle.wl_expr.proofs.Small.{fits_decides}
+use Rattle.wl_eval.specs.Played.{AllHonestRules}
+use Rattle.wl_eval.specs.MatchRows as match_rows
+use Rattle.wl_eval.specs.Replacing.{found_trees}
+use Rattle.wl_eval.proofs.MatchRowParts.{any_at, any_none, args_depth, element_depth, listed_honest, node_honest, pair_honest, rule_honest, cases_at, cases_leads, cases_over, count_at, count_over, delete_atom, delete_node, elements_over, leads_to, nothing_more, one_more, pair_is, pair_row, pair_stays, part_at, part_is, part_leads, part_node, part_none, row_exit, row_truth, sifted_at, sifted_leads, sifted_over}
+use Rattle.wl_eval.proofs.RowParts.{row_at, row_gives, row_made}
+use Rattle.wl_eval.specs.Replacing.{AllHonestMaybe, each_of, part_of, replacing, replacing_each, seen_each, seen_replaced, seen_result}
+use Rattle.wl_eval.proofs.ReplaceRowParts.{below_leads, each_next, each_over, leaf_replaced, node_below, pushed_honest, pushed_trees, rebuilt_honest, rebuilt_is, replacing_is, result_replaced, step_stops, trial_next, became, each_honest, each_later, each_leads, none_is, pass_ends, pass_goes, pass_steps, pass_stops, read_honest, read_is, replace_all_is, replace_is, replace_repeated_is, take_whole}
 use Rattle.wl_eval.proofs.evaluator.Evaluator.+eval.Goals as goal
 
 -- ---- which rule applies
@@ -1086,3 +1098,586 @@ trial-loop-i-preserved g t c =
 
 pub trial-returns-clause-played : goal.trial-returns-clause-played
 trial-returns-clause-played g t c = (c.loop-i.invariant.leads _ _ _ (trial_over c.args.rules.now c.loop-i.i (plain c.args.e.now) c.loop-i.self (omega arith)), tt)
+
+-- ---- matching rows
+
+pub any_matches-returns-in_err-found-clause-played : goal.any_matches-returns-in_err-found-clause-played
+any_matches-returns-in_err-found-clause-played g t c =
+    let l = c.loop-i in
+    let x = c.index-elements-i.result in
+    leads_out itself itself _ _ _ _ _ _ _ _ _ l.invariant.leads (any_at (plain c.args.p.now) c.args.elements.now l.i x (omega arith) c.index-elements-i.is) c.from_residual.ensures.1 (c.in_err-found.ensures.played (2 ^ 64) (omega arith))
+
+pub any_matches-returns-then-found-clause-played : goal.any_matches-returns-then-found-clause-played
+any_matches-returns-then-found-clause-played g t c =
+    let l = c.loop-i in
+    let x = c.index-elements-i.result in
+    let h = (c.in_ok-found.ensures.played (2 ^ 64) (omega arith)).0 in
+    (held _ _ _ _ _ _ _ h c.if-found.true (leads_to _ _ _ _ _ (any_at (plain c.args.p.now) c.args.elements.now l.i x (omega arith) c.index-elements-i.is) l.invariant.leads), tt)
+
+pub any_matches-loop-i-preserved : goal.any_matches-loop-i-preserved
+any_matches-loop-i-preserved g t c =
+    let l = c.loop-i in
+    let x = c.index-elements-i.result in
+    let h = (c.in_ok-found.ensures.played (2 ^ 64) (omega arith)).0 in
+    record {
+      leads = not_held _ _ _ _ _ _ _ h c.if-found.false (leads_to _ _ _ _ _ (any_at (plain c.args.p.now) c.args.elements.now l.i x (omega arith) c.index-elements-i.is) l.invariant.leads);
+      sound = h.sound l.invariant.sound;
+      pattern = later h _ l.invariant.pattern;
+      elements = all_later h _ l.invariant.elements;
+      falls = omega arith;
+    }
+
+pub any_matches-returns-clause-played : goal.any_matches-returns-clause-played
+any_matches-returns-clause-played g t c =
+    let p = plain c.args.p.now in
+    (elements_over (match_rows.any_matches p) false c.args.elements.now c.loop-i.i _ _ _ (any_none p) (omega arith) c.loop-i.invariant.leads, tt)
+
+pub count_matching-returns-in_err-found-clause-played : goal.count_matching-returns-in_err-found-clause-played
+count_matching-returns-in_err-found-clause-played g t c =
+    let l = c.loop-i in
+    let x = c.index-elements-i.result in
+    leads_out itself itself _ _ _ _ _ _ _ _ _ l.invariant.leads (count_at l.count (plain c.args.p.now) c.args.elements.now l.i x (omega arith) c.index-elements-i.is) c.from_residual.ensures.1 (c.in_err-found.ensures.played (2 ^ 64) (omega arith))
+
+pub count_matching-loop-i-preserved-then-not-found : goal.count_matching-loop-i-preserved-then-not-found
+count_matching-loop-i-preserved-then-not-found g t c =
+    let l = c.loop-i in
+    let x = c.index-elements-i.result in
+    let h = (c.in_ok-found.ensures.played (2 ^ 64) (omega arith)).0 in
+    record {
+      leads = part_leads _ _ _ _ _ _ _ _ false h c.if-not-found.true (count_at l.count (plain c.args.p.now) c.args.elements.now l.i x (omega arith) c.index-elements-i.is) l.invariant.leads;
+      sound = h.sound l.invariant.sound;
+      pattern = later h _ l.invariant.pattern;
+      elements = all_later h _ l.invariant.elements;
+      few = omega arith;
+      falls = omega arith;
+    }
+
+pub count_matching-loop-i-preserved : goal.count_matching-loop-i-preserved
+count_matching-loop-i-preserved g t c =
+    let l = c.loop-i in
+    let x = c.index-elements-i.result in
+    let h = (c.in_ok-found.ensures.played (2 ^ 64) (omega arith)).0 in
+    record {
+      leads = part_leads _ _ _ _ _ _ _ _ true h c.if-not-found.false (count_at l.count (plain c.args.p.now) c.args.elements.now l.i x (omega arith) c.index-elements-i.is) l.invariant.leads;
+      sound = h.sound l.invariant.sound;
+      pattern = later h _ l.invariant.pattern;
+      elements = all_later h _ l.invariant.elements;
+      few = omega arith;
+      falls = omega arith;
+    }
+
+pub count_matching-returns-clause-played : goal.count_matching-returns-clause-played
+count_matching-returns-clause-played g t c =
+    let p = plain c.args.p.now in
+    let n = c.loop-i.count in
+    (elements_over (match_rows.count_matching n p) n c.args.elements.now c.loop-i.i _ _ _ (count_over n p) (omega arith) c.loop-i.invariant.leads, tt)
+
+pub sifted-returns-in_err-matches-clause-played : goal.sifted-returns-in_err-matches-clause-played
+sifted-returns-in_err-matches-clause-played g t c =
+    let l = c.loop-i in
+    let x = c.index-elements-i.result in
+    leads_out itself found_trees _ _ _ _ _ _ _ _ _ l.invariant.leads (sifted_at c.args.wanted (trees l.found.items) (plain c.args.p.now) c.args.elements.now l.i x (omega arith) c.index-elements-i.is) c.from_residual.ensures.1 (c.in_err-matches.ensures.played (2 ^ 64) (omega arith))
+
+pub sifted-loop-i-preserved-then-not-agrees : goal.sifted-loop-i-preserved-then-not-agrees
+sifted-loop-i-preserved-then-not-agrees g t c =
+    let l = c.loop-i in
+    let x = c.index-elements-i.result in
+    let before = l.found.items in
+    let h = (c.in_ok-matches.ensures.played (2 ^ 64) (omega arith)).0 in
+    record {
+      leads = sifted_leads c.args.wanted before before (plain c.args.p.now) c.args.elements.now l.i x _ _ _ _ c.in_ok-matches.matches false (omega arith) c.index-elements-i.is h (sym c.agrees.ensures ∙ c.if-not-agrees.true) refl l.invariant.leads;
+      sound = h.sound l.invariant.sound;
+      pattern = later h _ l.invariant.pattern;
+      elements = all_later h _ l.invariant.elements;
+      found = all_later h _ l.invariant.found;
+      falls = omega arith;
+    }
+
+pub sifted-loop-i-preserved : goal.sifted-loop-i-preserved
+sifted-loop-i-preserved g t c =
+    let l = c.loop-i in
+    let x = c.index-elements-i.result in
+    let before = l.found.items in
+    let k1 = c.matches.new.self in
+    let h = (c.in_ok-matches.ensures.played (2 ^ 64) (omega arith)).0 in
+    let p = c.in_ok-push.ensures.items ∙ ap (λ z. before ++ z ∷ []) c.in_ok-copy.ensures in
+    record {
+      leads = sifted_leads c.args.wanted before _ (plain c.args.p.now) c.args.elements.now l.i x _ _ _ _ c.in_ok-matches.matches true (omega arith) c.index-elements-i.is h (sym c.agrees.ensures ∙ c.if-not-agrees.false) (trees_push before _ x p) l.invariant.leads;
+      sound = h.sound l.invariant.sound;
+      pattern = later h _ l.invariant.pattern;
+      elements = all_later h _ l.invariant.elements;
+      found = subst (AllHonest k1) (sym p) (All-push (Honest k1) before x (all_later h _ l.invariant.found) (subst (Honest k1) (sym c.index-elements-i.is) (all_later h _ l.invariant.elements l.i x (omega arith))));
+      falls = omega arith;
+    }
+
+pub sifted-returns-clause-played : goal.sifted-returns-clause-played
+sifted-returns-clause-played g t c =
+    let p = plain c.args.p.now in
+    let l = c.loop-i in
+    let found = trees l.found.items in
+    (elements_over (sifted c.args.wanted found p) found c.args.elements.now l.i _ _ _ (sifted_over c.args.wanted found p) (omega arith) l.invariant.leads, l.invariant.found)
+
+pub cases_by-returns-in_err-result-clause-played : goal.cases_by-returns-in_err-result-clause-played
+cases_by-returns-in_err-result-clause-played g t c =
+    let l = c.loop-i in
+    let x = c.index-elements-i.result in
+    leads_out found_tree found_trees _ _ _ _ _ _ _ _ _ l.invariant.leads (cases_at (trees l.found.items) (plain_rule c.args.rule.now) c.args.elements.now l.i x (omega arith) c.index-elements-i.is) c.from_residual.ensures.1 c.in_err-result.ensures.played
+
+pub cases_by-loop-i-preserved-in_default : goal.cases_by-loop-i-preserved-in_default
+cases_by-loop-i-preserved-in_default g t c =
+    let l = c.loop-i in
+    let x = c.index-elements-i.result in
+    let before = l.found.items in
+    let h = c.in_ok-result.ensures.played.0 in
+    record {
+      leads = cases_leads before before (plain_rule c.args.rule.now) c.args.elements.now l.i x _ _ _ _ c.in_ok-result.result (omega arith) c.index-elements-i.is h (nothing_more before c.in_ok-result.result c.in_default.not-Some) l.invariant.leads;
+      sound = h.sound l.invariant.sound;
+      rule = (later h _ l.invariant.rule.0, later h _ l.invariant.rule.1);
+      elements = all_later h _ l.invariant.elements;
+      found = all_later h _ l.invariant.found;
+      falls = omega arith;
+    }
+
+pub cases_by-loop-i-preserved : goal.cases_by-loop-i-preserved
+cases_by-loop-i-preserved g t c =
+    let l = c.loop-i in
+    let x = c.index-elements-i.result in
+    let y = c.in-Some.result in
+    let before = l.found.items in
+    let k1 = c.rule_result.new.self in
+    let h = c.in_ok-result.ensures.played.0 in
+    let p = c.in_ok-push.ensures.items in
+    let honest = subst (HonestOption k1.store) c.in-Some.is c.in_ok-result.ensures.played.1 in
+    record {
+      leads = cases_leads before _ (plain_rule c.args.rule.now) c.args.elements.now l.i x _ _ _ _ c.in_ok-result.result (omega arith) c.index-elements-i.is h (one_more before _ c.in_ok-result.result y c.in-Some.is p) l.invariant.leads;
+      sound = h.sound l.invariant.sound;
+      rule = (later h _ l.invariant.rule.0, later h _ l.invariant.rule.1);
+      elements = all_later h _ l.invariant.elements;
+      found = subst (AllHonest k1) (sym p) (All-push (Honest k1) before y (all_later h _ l.invariant.found) honest);
+      falls = omega arith;
+    }
+
+pub cases_by-returns-clause-played : goal.cases_by-returns-clause-played
+cases_by-returns-clause-played g t c =
+    let r = plain_rule c.args.rule.now in
+    let l = c.loop-i in
+    let found = trees l.found.items in
+    (elements_over (match_rows.cases_by found r) found c.args.elements.now l.i _ _ _ (cases_over found r) (omega arith) l.invariant.leads, l.invariant.found)
+
+pub any_part-returns-in_err-found-clause-played : goal.any_part-returns-in_err-found-clause-played
+any_part-returns-in_err-found-clause-played g t c =
+    leads_out itself itself _ _ _ _ _ _ _ _ _ (λ r k o h. h) (part_is (plain c.args.p.now) (plain c.args.e.now)) c.from_residual.ensures.1 (c.in_err-found.ensures.played (2 ^ 64) (omega arith))
+
+pub any_part-returns-then-found-clause-played : goal.any_part-returns-then-found-clause-played
+any_part-returns-then-found-clause-played g t c =
+    let h = (c.in_ok-found.ensures.played (2 ^ 64) (omega arith)).0 in
+    (held _ _ _ _ _ _ _ h c.if-found.true (leads_to _ _ _ _ _ (part_is (plain c.args.p.now) (plain c.args.e.now)) (λ r k o m. m)), tt)
+
+pub any_part-returns-in_default-clause-played : goal.any_part-returns-in_default-clause-played
+any_part-returns-in_default-clause-played g t c =
+    let p = plain c.args.p.now in
+    let e = plain c.args.e.now in
+    let h = (c.in_ok-found.ensures.played (2 ^ 64) (omega arith)).0 in
+    let on = not_held _ _ _ _ _ _ _ h c.if-found.false (leads_to _ _ _ _ _ (part_is p e) (λ r k o m. m)) in
+    (on _ _ _ (subst (λ z. Plays z c.matches.new.self (Ok false) c.matches.new.self false) (sym (part_none p e (no_node _ _ _ c.view.ensures.all c.in_default.not-Node))) plays_done), tt)
+
+pub any_part-returns-in_err-in_head-clause-played : goal.any_part-returns-in_err-in_head-clause-played
+any_part-returns-in_err-in_head-clause-played g t c =
+    let p = plain c.args.p.now in
+    let e = plain c.args.e.now in
+    let h = (c.in_ok-found.ensures.played (2 ^ 64) (omega arith)).0 in
+    let on = not_held _ _ _ _ _ _ _ h c.if-found.false (leads_to _ _ _ _ _ (part_is p e) (λ r k o m. m)) in
+    leads_out itself itself _ _ _ _ _ _ _ _ _ on (part_node p e (plain c.in-Node.head.now) c.in-Node.args.now c.in-Node.ensures.plain) c.from_residual-in_err-in_head.ensures.1 c.in_err-in_head.ensures.played
+
+pub any_part-returns-then-in_head-clause-played : goal.any_part-returns-then-in_head-clause-played
+any_part-returns-then-in_head-clause-played g t c =
+    let p = plain c.args.p.now in
+    let e = plain c.args.e.now in
+    let h = (c.in_ok-found.ensures.played (2 ^ 64) (omega arith)).0 in
+    let on = not_held _ _ _ _ _ _ _ h c.if-found.false (leads_to _ _ _ _ _ (part_is p e) (λ r k o m. m)) in
+    (held _ _ _ _ _ _ _ c.in_ok-in_head.ensures.played.0 c.if-in_head.true (leads_to _ _ _ _ _ (part_node p e (plain c.in-Node.head.now) c.in-Node.args.now c.in-Node.ensures.plain) on), tt)
+
+pub any_part-any_part_in-requires : goal.any_part-any_part_in-requires
+any_part-any_part_in-requires g t c κs within =
+    let h = (c.in_ok-found.ensures.played (2 ^ 64) (omega arith)).0 in
+    let m = c.in_ok-in_head.ensures.played.0 in
+    let d = args_depth (plain c.in-Node.head.now) (plain c.args.e.now) c.in-Node.args.now c.in-Node.ensures.plain in
+    (omega (arith, d, c.in_ok-found.ensures.falls, c.in_ok-in_head.ensures.falls), (within, (m.sound (h.sound c.requires.sound), (later m _ (later h _ c.requires.pattern), all_later m _ (all_later h _ (args_honest c.args.self.now.store _ _ _ _ c.in-Node.ensures.all c.requires.honest))))))
+
+pub any_part-returns-clause-played : goal.any_part-returns-clause-played
+any_part-returns-clause-played g t c =
+    let p = plain c.args.p.now in
+    let e = plain c.args.e.now in
+    let h = (c.in_ok-found.ensures.played (2 ^ 64) (omega arith)).0 in
+    let on = not_held _ _ _ _ _ _ _ h c.if-found.false (leads_to _ _ _ _ _ (part_is p e) (λ r k o m. m)) in
+    leads_played itself _ _ _ _ _ _ (not_held _ _ _ _ _ _ _ c.in_ok-in_head.ensures.played.0 c.if-in_head.false (leads_to _ _ _ _ _ (part_node p e (plain c.in-Node.head.now) c.in-Node.args.now c.in-Node.ensures.plain) on)) c.any_part_in.ensures.played
+
+pub any_part_in-any_part-requires : goal.any_part_in-any_part-requires
+any_part_in-any_part-requires g t c κs within =
+    let l = c.loop-i in
+    let x = c.index-elements-i.result in
+    let d = element_depth c.args.elements.now l.i x (omega arith) c.index-elements-i.is in
+    (omega (arith, d, l.invariant.falls), (within, (l.invariant.sound, (l.invariant.pattern, subst (Honest l.self) (sym c.index-elements-i.is) (l.invariant.elements l.i x (omega arith))))))
+
+pub any_part_in-returns-in_err-found-clause-played : goal.any_part_in-returns-in_err-found-clause-played
+any_part_in-returns-in_err-found-clause-played g t c =
+    let l = c.loop-i in
+    let x = c.index-elements-i.result in
+    leads_out itself itself _ _ _ _ _ _ _ _ _ l.invariant.leads (part_at (plain c.args.p.now) c.args.elements.now l.i x (omega arith) c.index-elements-i.is) c.from_residual.ensures.1 c.in_err-found.ensures.played
+
+pub any_part_in-returns-then-found-clause-played : goal.any_part_in-returns-then-found-clause-played
+any_part_in-returns-then-found-clause-played g t c =
+    let l = c.loop-i in
+    let x = c.index-elements-i.result in
+    (held _ _ _ _ _ _ _ c.in_ok-found.ensures.played.0 c.if-found.true (leads_to _ _ _ _ _ (part_at (plain c.args.p.now) c.args.elements.now l.i x (omega arith) c.index-elements-i.is) l.invariant.leads), tt)
+
+pub any_part_in-loop-i-preserved : goal.any_part_in-loop-i-preserved
+any_part_in-loop-i-preserved g t c =
+    let l = c.loop-i in
+    let x = c.index-elements-i.result in
+    let h = c.in_ok-found.ensures.played.0 in
+    record {
+      leads = not_held _ _ _ _ _ _ _ h c.if-found.false (leads_to _ _ _ _ _ (part_at (plain c.args.p.now) c.args.elements.now l.i x (omega arith) c.index-elements-i.is) l.invariant.leads);
+      sound = h.sound l.invariant.sound;
+      pattern = later h _ l.invariant.pattern;
+      elements = all_later h _ l.invariant.elements;
+      falls = omega (arith, c.in_ok-found.ensures.falls, l.invariant.falls);
+    }
+
+pub any_part_in-returns-clause-played : goal.any_part_in-returns-clause-played
+any_part_in-returns-clause-played g t c =
+    let p = plain c.args.p.now in
+    (elements_over (λ ts. match_rows.any_matches p (match_rows.parts_in (tree.from_list ts))) false c.args.elements.now c.loop-i.i _ _ _ (any_none p) (omega arith) c.loop-i.invariant.leads, tt)
+
+pub cases_in-cases_by-requires : goal.cases_in-cases_by-requires
+cases_in-cases_by-requires g t c κs within =
+    (search rules, (within, (c.requires.sound, (rule_honest c.args.self.now c.args.p.now c.in_ok-delayed_rule.field-0 c.in-Some.rule c.in_ok-delayed_rule.ensures.passed c.in-Some.is c.requires.pattern, c.requires.elements))))
+
+pub cases_row-cases_in-requires : goal.cases_row-cases_in-requires
+cases_row-cases_in-requires g t c κs within =
+    let k = c.args.self.now in
+    let h = pair_honest k c.args.args.now c.in-Some.e.now c.in-Some.p.now c.in-Some.ensures c.requires.args in
+    (search rules, (within, (c.requires.sound, (h.1, kept_honest k.store c.in-Some.e.now c.elements.result.now c.elements.ensures.passed h.0))))
+
+pub cases_row-given-requires : goal.cases_row-given-requires
+cases_row-given-requires g t c = record { honest = listed_honest c.cases_in.new.self c.as_slice.result.now _ c.list-made.result c.as_slice.ensures.value c.list-made.ensures.node c.in_ok-cases.ensures.played.1 }
+
+pub cases_row-returns-in_err-cases-clause-played : goal.cases_row-returns-in_err-cases-clause-played
+cases_row-returns-in_err-cases-clause-played g t c =
+    let e = c.in-Some.e.now in
+    let p = c.in-Some.p.now in
+    let q = plain p in
+    let m = subst (λ ts. Played found_trees (match_rows.cases_in ts q (match_rows.delayed_rule q)) c.args.self.now (Err c.in_err-cases.field-0.0) c.cases_in.new.self) c.elements.ensures.value c.in_err-cases.ensures.played in
+    pair_row found_tree match_rows.cases_row c.args.args.now e p _ _ _ c.in-Some.ensures (row_exit found_trees _ _ _ _ _ _ c.from_residual.ensures.1 m)
+
+pub cases_row-returns-clause-played : goal.cases_row-returns-clause-played
+cases_row-returns-clause-played g t c =
+    let e = c.in-Some.e.now in
+    let p = c.in-Some.p.now in
+    let q = plain p in
+    let us = trees c.in_ok-cases.cases.items in
+    let h = subst (λ ts. Plays (match_rows.cases_in ts q (match_rows.delayed_rule q)) c.args.self.now (Ok us) c.cases_in.new.self false) c.elements.ensures.value c.in_ok-cases.ensures.played.0 in
+    let m = subst (λ zs. Makes (list_of (trees zs)) c.list-made.result) c.as_slice.ensures.value c.list-made.ensures.made in
+    pair_row found_tree match_rows.cases_row c.args.args.now e p _ _ _ c.in-Some.ensures (row_made _ (list_of us) _ _ _ _ (plays_bind _ _ h plays_done) (c.given.ensures.played (list_of us) m))
+
+pub count_row-count_matching-requires : goal.count_row-count_matching-requires
+count_row-count_matching-requires g t c κs within =
+    let k = c.args.self.now in
+    let h = pair_honest k c.args.args.now c.in-Some.e.now c.in-Some.p.now c.in-Some.ensures c.requires.args in
+    (search rules, (within, (c.requires.sound, (h.1, kept_honest k.store c.in-Some.e.now c.elements.result.now c.elements.ensures.passed h.0))))
+
+pub member_row-any_matches-requires : goal.member_row-any_matches-requires
+member_row-any_matches-requires g t c κs within =
+    let k = c.args.self.now in
+    let h = pair_honest k c.args.args.now c.in-Some.e.now c.in-Some.p.now c.in-Some.ensures c.requires.args in
+    (search rules, (within, (c.requires.sound, (h.1, kept_honest k.store c.in-Some.e.now c.elements.result.now c.elements.ensures.passed h.0))))
+
+pub delete_cases_row-sifted-requires : goal.delete_cases_row-sifted-requires
+delete_cases_row-sifted-requires g t c κs within =
+    let k = c.args.self.now in
+    let h = pair_honest k c.args.args.now c.in-Some.e.now c.in-Some.p.now c.in-Some.ensures c.requires.args in
+    (search rules, (within, (c.requires.sound, (h.1, args_honest k.store _ _ _ _ c.in-Node.ensures.all h.0))))
+
+pub delete_cases_row-given-requires : goal.delete_cases_row-given-requires
+delete_cases_row-given-requires g t c =
+    let k = c.args.self.now in
+    let h = pair_honest k c.args.args.now c.in-Some.e.now c.in-Some.p.now c.in-Some.ensures c.requires.args in
+    let m = c.in_ok-others.ensures.played in
+    record { honest = node_honest c.sifted.new.self c.in-Node.head.now c.as_slice.result.now _ c.node-made.result c.as_slice.ensures.value c.node-made.ensures.ok (later m.0 _ (head_honest k.store _ _ _ _ c.in-Node.ensures.all h.0)) m.1 }
+
+pub delete_cases_row-returns-in_err-others-clause-played : goal.delete_cases_row-returns-in_err-others-clause-played
+delete_cases_row-returns-in_err-others-clause-played g t c =
+    let e = c.in-Some.e.now in
+    let p = c.in-Some.p.now in
+    let q = delete_node (plain e) (plain p) (plain c.in-Node.head.now) c.in-Node.parts.now c.in-Node.ensures.plain in
+    pair_row found_tree match_rows.delete_cases_row c.args.args.now e p _ _ _ c.in-Some.ensures (row_at _ _ _ _ _ q (row_exit found_trees _ _ _ _ _ _ c.from_residual-in_err-others.ensures.1 c.in_err-others.ensures.played))
+
+pub delete_cases_row-returns-clause-played : goal.delete_cases_row-returns-clause-played
+delete_cases_row-returns-clause-played g t c =
+    let e = c.in-Some.e.now in
+    let p = c.in-Some.p.now in
+    let h = plain c.in-Node.head.now in
+    let us = c.in_ok-others.others.items in
+    let q = delete_node (plain e) (plain p) h c.in-Node.parts.now c.in-Node.ensures.plain in
+    let m = subst (λ zs. Makes (applied h (trees zs)) c.node-made.result) c.as_slice.ensures.value (node_makes c.in-Node.head.now c.as_slice.result.now c.node-made.result c.node-made.ensures.ok c.node-made.ensures.large) in
+    pair_row found_tree match_rows.delete_cases_row c.args.args.now e p _ _ _ c.in-Some.ensures
+    (row_at _ _ _ _ _ q (row_made _ (applied h (trees us)) _ _ _ _ (plays_bind _ _ c.in_ok-others.ensures.played.0 plays_done) (c.given.ensures.played (applied h (trees us)) m)))
+
+pub match_row-returns-in_err-found-clause-played : goal.match_row-returns-in_err-found-clause-played
+match_row-returns-in_err-found-clause-played g t c =
+    pair_row found_tree match_rows.match_row c.args.args.now c.in-Some.e.now c.in-Some.p.now _ _ _ c.in-Some.ensures (row_exit itself _ _ _ _ _ _ c.from_residual.ensures.1 (c.in_err-found.ensures.played (2 ^ 64) (omega arith)))
+
+-- ---- replacement
+
+pub first_result-returns-in_err-found-clause-played : goal.first_result-returns-in_err-found-clause-played
+first_result-returns-in_err-found-clause-played g t c =
+    let l = c.loop-i in
+    let x = c.index-rules-i.result in
+    leads_out found_tree found_tree _ _ _ _ _ _ _ _ _ l.invariant.leads (trial_next c.args.rules.now l.i x (plain c.args.e.now) (omega arith) c.index-rules-i.is) c.from_residual.ensures.1 c.in_err-found.ensures.played
+
+pub first_result-returns-in-Some-clause-played : goal.first_result-returns-in-Some-clause-played
+first_result-returns-in-Some-clause-played g t c =
+    let l = c.loop-i in
+    let x = c.index-rules-i.result in
+    let e = plain c.args.e.now in
+    let on = leads_to _ _ _ _ _ (trial_next c.args.rules.now l.i x e (omega arith) c.index-rules-i.is) l.invariant.leads in
+    let q = matching.trial (map plain_rule (drop (l.i + 1) c.args.rules.now)) e in
+    found_some _ (matching.rule_result (plain_rule x) e) q _ _ _ c.in_ok-found.found c.in-Some.result on c.in_ok-found.ensures.played c.in-Some.is
+
+pub first_result-loop-i-preserved : goal.first_result-loop-i-preserved
+first_result-loop-i-preserved g t c =
+    let l = c.loop-i in
+    let x = c.index-rules-i.result in
+    let e = plain c.args.e.now in
+    let on = leads_to _ _ _ _ _ (trial_next c.args.rules.now l.i x e (omega arith) c.index-rules-i.is) l.invariant.leads in
+    let q = matching.trial (map plain_rule (drop (l.i + 1) c.args.rules.now)) e in
+    let h = c.in_ok-found.ensures.played.0 in
+    record {
+      leads = found_none _ (matching.rule_result (plain_rule x) e) q _ _ _ c.in_ok-found.found on c.in_ok-found.ensures.played c.in_default.not-Some;
+      sound = h.sound l.invariant.sound;
+      rules = rules_later h _ l.invariant.rules;
+      honest = later h _ l.invariant.honest;
+      falls = omega arith;
+    }
+
+pub first_result-returns-clause-played : goal.first_result-returns-clause-played
+first_result-returns-clause-played g t c = (c.loop-i.invariant.leads _ _ _ (trial_over c.args.rules.now c.loop-i.i (plain c.args.e.now) c.loop-i.self (omega arith)), tt)
+
+pub replace_all-returns-in_err-found-clause-played : goal.replace_all-returns-in_err-found-clause-played
+replace_all-returns-in_err-found-clause-played g t c =
+    let e = c.args.e.now in
+    leads_out found_tree (seen_replaced e) _ _ _ _ _ _ _ _ _ (λ r k o h. h) (replacing_is (map plain_rule c.args.rules.now) (plain e)) c.from_residual.ensures.1 c.in_err-found.ensures.played
+
+pub replace_all-returns-in-Some-clause-played : goal.replace_all-returns-in-Some-clause-played
+replace_all-returns-in-Some-clause-played g t c =
+    result_replaced (map plain_rule c.args.rules.now) c.args.e.now _ _ c.in_ok-found.found c.in_ok-found.ensures.played c.in-Some.result c.in-Some.is c.weight-weight.ensures.fits
+
+pub replace_all-returns-in_default-view-clause-played : goal.replace_all-returns-in_default-view-clause-played
+replace_all-returns-in_default-view-clause-played g t c =
+    let rs = map plain_rule c.args.rules.now in
+    let e = c.args.e.now in
+    let on = below_leads rs e _ _ c.in_ok-found.found c.in_ok-found.ensures.played c.in_default.not-Some in
+    leaf_replaced rs e _ _ _ (no_node _ _ _ c.view.ensures.all c.in_default-view.not-Node) c.view.ensures.fits (later c.in_ok-found.ensures.played.0 _ c.requires.honest) on
+
+pub replace_all-returns-in_err-new_head-clause-played : goal.replace_all-returns-in_err-new_head-clause-played
+replace_all-returns-in_err-new_head-clause-played g t c =
+    let rs = map plain_rule c.args.rules.now in
+    let e = c.args.e.now in
+    let on = below_leads rs e _ _ c.in_ok-found.found c.in_ok-found.ensures.played c.in_default.not-Some in
+    leads_out (seen_replaced c.in-Node.head.now) (seen_replaced e) _ _ _ _ _ _ _ _ _ on (node_below rs (plain e) (plain c.in-Node.head.now) c.in-Node.args.now c.in-Node.ensures.plain) c.from_residual-in_err-new_head.ensures.1 c.in_err-new_head.ensures.played
+
+pub replace_all-replace_each-requires : goal.replace_all-replace_each-requires
+replace_all-replace_each-requires g t c κs within =
+    let h = c.in_ok-found.ensures.played.0 in
+    let m = c.in_ok-new_head.ensures.played.0 in
+    let d = args_depth (plain c.in-Node.head.now) (plain c.args.e.now) c.in-Node.args.now c.in-Node.ensures.plain in
+    (omega (arith, d, c.in_ok-found.ensures.falls, c.in_ok-new_head.ensures.falls), (within, (m.sound (h.sound c.requires.sound), (rules_later m _ (rules_later h _ c.requires.rules), all_later m _ (all_later h _ (args_honest c.args.self.now.store _ _ _ _ c.in-Node.ensures.all c.requires.honest))))))
+
+pub replace_all-returns-in_err-elements-clause-played : goal.replace_all-returns-in_err-elements-clause-played
+replace_all-returns-in_err-elements-clause-played g t c =
+    let rs = map plain_rule c.args.rules.now in
+    let e = c.args.e.now in
+    let on = below_leads rs e _ _ c.in_ok-found.found c.in_ok-found.ensures.played c.in_default.not-Some in
+    let next = leads_in _ _ _ _ _ _ _ _ on (node_below rs (plain e) (plain c.in-Node.head.now) c.in-Node.args.now c.in-Node.ensures.plain) c.in_ok-new_head.ensures.played.0 in
+    leads_out (seen_each c.in-Node.args.now) (seen_replaced e) _ _ _ _ _ _ _ _ _ next refl c.from_residual-in_err-elements.ensures.1 c.in_err-elements.ensures.played
+
+pub replace_all-returns-clause-played : goal.replace_all-returns-clause-played
+replace_all-returns-clause-played g t c =
+    let rs = map plain_rule c.args.rules.now in
+    let e = c.args.e.now in
+    let h = c.in-Node.head.now in
+    let es = c.in-Node.args.now in
+    let k2 = c.replace_each.new.self in
+    let made = c.in_ok-rebuilt.field-0 in
+    let on = below_leads rs e _ _ c.in_ok-found.found c.in_ok-found.ensures.played c.in_default.not-Some in
+    let next = leads_in _ _ _ _ _ _ _ _ on (node_below rs (plain e) (plain h) es c.in-Node.ensures.plain) c.in_ok-new_head.ensures.played.0 in
+    let m = c.in_ok-new_head.ensures.played in
+    let n = c.in_ok-elements.ensures.played in
+    let is = rebuilt_is e h es c.in-Node.ensures.plain c.view.ensures.fits (part_of h c.in_ok-new_head.new_head) (each_of es c.in_ok-elements.elements) made c.in_ok-rebuilt.ensures in
+    (leads_in _ _ _ _ _ _ _ _ next refl n.0 _ _ _ (plays_done_is (sym is)),
+     rebuilt_honest e h es c.in-Node.ensures.plain c.view.ensures.fits k2 (part_of h c.in_ok-new_head.new_head) (each_of es c.in_ok-elements.elements) made c.in_ok-rebuilt.ensures
+     (later n.0 _ (later m.0 _ (later c.in_ok-found.ensures.played.0 _ c.requires.honest))) (option_later n.0 _ m.1) n.1)
+
+pub replace_each-replace_all-requires : goal.replace_each-replace_all-requires
+replace_each-replace_all-requires g t c κs within =
+    let l = c.loop-i in
+    let x = c.index-args-i.result in
+    let d = element_depth c.args.args.now l.i x (omega arith) c.index-args-i.is in
+    (omega (arith, d, l.invariant.falls), (within, (l.invariant.sound, (l.invariant.rules, subst (Honest l.self) (sym c.index-args-i.is) (l.invariant.args l.i x (omega arith))))))
+
+pub replace_each-returns-in_err-part-clause-played : goal.replace_each-returns-in_err-part-clause-played
+replace_each-returns-in_err-part-clause-played g t c =
+    let l = c.loop-i in
+    let x = c.index-args-i.result in
+    let us = option_map trees (each_of (take l.i c.args.args.now) l.before) in
+    leads_out (seen_replaced x) (seen_each c.args.args.now) _ _ _ _ _ _ _ _ _ l.invariant.leads (each_next us (map plain_rule c.args.rules.now) c.args.args.now l.i x (omega arith) c.index-args-i.is) c.from_residual.ensures.1 c.in_err-part.ensures.played
+
+pub replace_each-loop-i-preserved : goal.replace_each-loop-i-preserved
+replace_each-loop-i-preserved g t c =
+    let l = c.loop-i in
+    let xs = c.args.args.now in
+    let x = c.index-args-i.result in
+    let k1 = c.replace_all.new.self in
+    let h = c.in_ok-part.ensures.played in
+    record {
+      leads = each_leads xs l.i x l.before c.in_ok-before.before c.in_ok-part.part (omega arith) c.index-args-i.is c.in_ok-before.ensures (map plain_rule c.args.rules.now) _ _ _ _ h.0 l.invariant.leads;
+      sound = h.0.sound l.invariant.sound;
+      rules = rules_later h.0 _ l.invariant.rules;
+      args = all_later h.0 _ l.invariant.args;
+      before = each_honest xs l.i x l.before c.in_ok-before.before c.in_ok-part.part (omega arith) c.index-args-i.is c.in_ok-before.ensures k1 (each_later h.0 _ l.invariant.before) h.1;
+      falls = omega (arith, c.in_ok-part.ensures.falls, l.invariant.falls);
+    }
+
+pub replace_each-returns-clause-played : goal.replace_each-returns-clause-played
+replace_each-returns-clause-played g t c =
+    let l = c.loop-i in
+    let xs = c.args.args.now in
+    let rs = map plain_rule c.args.rules.now in
+    let us = option_map trees (each_of (take l.i xs) l.before) in
+    let w = take_whole xs l.i (omega arith) in
+    (subst (λ z. Plays (replacing_each (Some []) rs (trees xs)) c.args.self.now (Ok (option_map trees (each_of z l.before))) l.self false) w (elements_over (replacing_each us rs) us xs l.i _ _ _ (each_over us rs) (omega arith) l.invariant.leads),
+     subst (λ z. AllHonestMaybe l.self (each_of z l.before)) w l.invariant.before)
+
+pub replace_repeated-returns-in_err-take_step-clause-played : goal.replace_repeated-returns-in_err-take_step-clause-played
+replace_repeated-returns-in_err-take_step-clause-played g t c n l =
+    let s = c.loop-subject in
+    step_stops seen_result n (map plain_rule c.args.rules.now) (plain c.args.first.now) _ (plain s.subject) _ _ _ _ (s.invariant.passing n l) c.from_residual-in_err-take_step.ensures.1 c.in_err-take_step.ensures.played
+
+pub replace_repeated-returns-in_err-replaced-clause-played : goal.replace_repeated-returns-in_err-replaced-clause-played
+replace_repeated-returns-in_err-replaced-clause-played g t c n l =
+    let s = c.loop-subject in
+    let rs = map plain_rule c.args.rules.now in
+    let first = plain c.args.first.now in
+    let u = plain s.subject in
+    let pass = pass_steps n rs first c.args.self.now u s.self c.take_step.new.self (s.invariant.passing n l) c.in_ok-take_step.ensures.played.0 in
+    pass_stops seen_result n rs first _ s.subject _ _ _ _ _ pass c.from_residual-in_err-replaced.ensures.1 c.in_err-replaced.ensures.played
+
+pub replace_repeated-returns-in_err-value-clause-played : goal.replace_repeated-returns-in_err-value-clause-played
+replace_repeated-returns-in_err-value-clause-played g t c n l =
+    let s = c.loop-subject in
+    let rs = map plain_rule c.args.rules.now in
+    let first = plain c.args.first.now in
+    let u = plain s.subject in
+    let pass = pass_steps n rs first c.args.self.now u s.self c.take_step.new.self (s.invariant.passing n l) c.in_ok-take_step.ensures.played.0 in
+    let came = became rs u c.take_step.new.self c.replace_all.new.self _ c.in_ok-replaced.ensures.played.0 in
+    let makes = c.made.ensures.value came.it came.gives in
+    let on = leads_in _ _ _ _ _ _ _ came.it pass.leads refl came.plays in
+    leads_out value seen_result _ _ _ _ _ _ _ _ _ on refl c.from_residual-in_err-value.ensures.1 (c.in_err-value.ensures.played came.it makes)
+
+pub replace_repeated-returns-then-same-clause-played : goal.replace_repeated-returns-then-same-clause-played
+replace_repeated-returns-then-same-clause-played g t c n l =
+    let s = c.loop-subject in
+    let rs = map plain_rule c.args.rules.now in
+    let first = plain c.args.first.now in
+    let u = plain s.subject in
+    let pass = pass_steps n rs first c.args.self.now u s.self c.take_step.new.self (s.invariant.passing n l) c.in_ok-take_step.ensures.played.0 in
+    let came = became rs u c.take_step.new.self c.replace_all.new.self _ c.in_ok-replaced.ensures.played.0 in
+    let makes = c.made.ensures.value came.it came.gives in
+    let on = leads_in _ _ _ _ _ _ _ came.it pass.leads refl came.plays in
+    let v = c.in_ok-value.ensures.played came.it makes in
+    (pass_ends _ pass.left rs u (plain c.in_ok-value.value) _ _ c.same.result c.same.ensures c.if-same.true (leads_in _ _ _ _ _ _ _ _ on refl v.0),
+     later v.0 _ (later c.in_ok-replaced.ensures.played.0 _ (later c.in_ok-take_step.ensures.played.0 _ s.invariant.honest)))
+
+pub replace_repeated-loop-subject-preserved : goal.replace_repeated-loop-subject-preserved
+replace_repeated-loop-subject-preserved g t c =
+    let s = c.loop-subject in
+    let rs = map plain_rule c.args.rules.now in
+    let first = plain c.args.first.now in
+    let u = plain s.subject in
+    let step = c.in_ok-take_step.ensures.played.0 in
+    let parts = c.in_ok-replaced.ensures.played.0 in
+    let came = became rs u c.take_step.new.self c.replace_all.new.self _ parts in
+    let makes = c.made.ensures.value came.it came.gives in
+    let v = c.in_ok-value.ensures.played came.it makes in
+    record {
+      passing = λ n l.
+          let pass = pass_steps n rs first c.args.self.now u s.self c.take_step.new.self (s.invariant.passing n l) step in
+          let on = leads_in _ _ _ _ _ _ _ came.it pass.leads refl came.plays in
+          record {
+            left = pass.left;
+            enough = omega (arith, pass.enough, c.in_ok-take_step.ensures.less, c.in_ok-replaced.ensures.falls, c.in_ok-value.ensures.falls);
+            leads = pass_goes _ pass.left rs u (plain c.in_ok-value.value) _ _ c.same.result c.same.ensures c.if-same.false (leads_in _ _ _ _ _ _ _ _ on refl v.0);
+          };
+      sound = v.0.sound (parts.sound (step.sound s.invariant.sound));
+      rules = rules_later v.0 _ (rules_later parts _ (rules_later step _ s.invariant.rules));
+      honest = v.1.0;
+      falls = omega (arith, s.invariant.falls, c.in_ok-take_step.ensures.falls, c.in_ok-replaced.ensures.falls, c.in_ok-value.ensures.falls);
+    }
+
+pub replace_all_row-replace_all-requires : goal.replace_all_row-replace_all-requires
+replace_all_row-replace_all-requires g t c κs within =
+    let k = c.args.self.now in
+    let h = pair_honest k c.args.args.now c.in-Some.e.now c.in-Some.r.now c.in-Some.ensures c.requires.args in
+    let rs = read_honest k c.in-Some.r.now c.in_ok-rules.field-0 c.in-Some-2.rules c.in_ok-rules.ensures.passed c.in-Some-2.is h.1 in
+    (omega (arith, c.depth-depth.ensures.fits.shallow), (within, (c.requires.sound, (subst (AllHonestRules k) (sym c.as_slice.ensures.value) rs, h.0))))
+
+pub replace_all_row-returns-clause-played : goal.replace_all_row-returns-clause-played
+replace_all_row-returns-clause-played g t c =
+    let e = c.in-Some.e.now in
+    let r = c.in-Some.r.now in
+    let rs = map plain_rule c.in-Some-2.rules.items in
+    let is = read_is c.in_ok-rules.field-0 c.in-Some-2.rules _ c.in-Some-2.is c.in_ok-rules.ensures.rules in
+    let same = ap (map plain_rule) c.as_slice.ensures.value in
+    let h = subst (λ zs. Plays (replacing zs (plain e)) c.args.self.now (Ok (option_map plain (part_of e c.in_ok-replaced.replaced))) c.replace_all.new.self false) same c.in_ok-replaced.ensures.played.0 in
+    let came = became rs (plain e) _ _ _ h in
+    pair_row found_tree match_rows.replace_all_row c.args.args.now e r _ _ _ c.in-Some.ensures
+    (row_at _ _ _ _ _ (replace_all_is (plain e) (plain r) (Some rs) is) (row_made _ came.it _ _ _ _ (plays_bind _ _ came.plays plays_done) (c.given.ensures.played came.it (c.made.ensures.value came.it came.gives))))
+
+pub replace_repeated_row-replace_repeated-requires : goal.replace_repeated_row-replace_repeated-requires
+replace_repeated_row-replace_repeated-requires g t c κs within =
+    let k = c.args.self.now in
+    let h = pair_honest k c.args.args.now c.in-Some.e.now c.in-Some.r.now c.in-Some.ensures c.requires.args in
+    let rs = read_honest k c.in-Some.r.now c.in_ok-rules.field-0 c.in-Some-2.rules c.in_ok-rules.ensures.passed c.in-Some-2.is h.1 in
+    (search rules, (within, (c.requires.sound, (subst (AllHonestRules k) (sym c.as_slice.ensures.value) rs, h.0))))
+
+pub replace_repeated_row-returns-in_err-last-clause-played : goal.replace_repeated_row-returns-in_err-last-clause-played
+replace_repeated_row-returns-in_err-last-clause-played g t c =
+    let e = c.in-Some.e.now in
+    let r = c.in-Some.r.now in
+    let rs = map plain_rule c.in-Some-2.rules.items in
+    let is = read_is c.in_ok-rules.field-0 c.in-Some-2.rules _ c.in-Some-2.is c.in_ok-rules.ensures.rules in
+    let same = ap (map plain_rule) c.as_slice.ensures.value in
+    let h = subst (λ zs. Played seen_result (match_rows.replace_repeated (2 ^ 64) zs (plain e)) c.args.self.now (Err c.in_err-last.field-0.0) c.replace_repeated.new.self) same (c.in_err-last.ensures.played (2 ^ 64) (omega arith)) in
+    pair_row found_tree match_rows.replace_repeated_row c.args.args.now e r _ _ _ c.in-Some.ensures
+    (row_at _ _ _ _ _ (replace_repeated_is (plain e) (plain r) (Some rs) is) (exit seen_result found_tree _ _ _ _ _ _ c.from_residual-in_err-last.ensures.1 h))
+
+pub replace_row-first_result-requires : goal.replace_row-first_result-requires
+replace_row-first_result-requires g t c κs within =
+    let k = c.args.self.now in
+    let h = pair_honest k c.args.args.now c.in-Some.e.now c.in-Some.r.now c.in-Some.ensures c.requires.args in
+    let rs = read_honest k c.in-Some.r.now c.in_ok-rules.field-0 c.in-Some-2.rules c.in_ok-rules.ensures.passed c.in-Some-2.is h.1 in
+    (search rules, (within, (c.requires.sound, (subst (AllHonestRules k) (sym c.as_slice.ensures.value) rs, h.0))))
+
+pub replace_row-returns-in_default-found-clause-played : goal.replace_row-returns-in_default-found-clause-played
+replace_row-returns-in_default-found-clause-played g t c =
+    let e = c.in-Some.e.now in
+    let r = c.in-Some.r.now in
+    let rs = map plain_rule c.in-Some-2.rules.items in
+    let is = read_is c.in_ok-rules.field-0 c.in-Some-2.rules _ c.in-Some-2.is c.in_ok-rules.ensures.rules in
+    let same = ap (map plain_rule) c.as_slice.ensures.value in
+    let h = subst (λ zs. Played found_tree (matching.trial zs (plain e)) c.args.self.now (Ok c.in_ok-found.found) c.first_result.new.self) same c.in_ok-found.ensures.played in
+    let none = none_is rs (plain e) _ _ c.in_ok-found.found h c.in_default-found.not-Some in
+    let honest = later none _ (pair_honest c.args.self.now c.args.args.now e r c.in-Some.ensures c.requires.args).0 in
+    subst (λ z. Played found_tree (sized_row (match_rows.replace_row (trees c.args.args.now))) c.args.self.now (Ok (Some z)) c.first_result.new.self) (sym c.in_ok-copy.ensures)
+    (pair_row found_tree match_rows.replace_row c.args.args.now e r _ _ _ c.in-Some.ensures
+    (row_at _ _ _ _ _ (replace_is (plain e) (plain r) (Some rs) is) (row_gives _ _ _ e (plays_bind (matching.trial rs (plain e)) _ none plays_done) ((fits_decides (plain e)).1 c.weight-weight.ensures.fits) honest)))

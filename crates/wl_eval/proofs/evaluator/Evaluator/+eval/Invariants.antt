@@ -18,6 +18,12 @@ use Rattle.wl_eval.proofs.Bindings.{all_tests, test_within}
 use Rattle.wl_expr.specs.Tree as tree
 use Rattle.wl_expr.specs.Tree.{depth}
 use Rattle.wl_eval.specs.Definitions.{set, set_each}
+use Rattle.wl_expr.specs.Tree.{depth, depths}
+use Rattle.wl_eval.specs.MatchRows as match_rows
+use Rattle.std.proofs.Common.{Some, option_map, take}
+use Rattle.wl_eval.specs.Replacing.{AllHonestMaybe, each_of, replacing_each, sifted}
+use Rattle.wl_eval.proofs.ReplaceRowParts.{Passing}
+use Rattle.wl_eval.specs.Honest.{HonestRule}
 use Rattle.wl_eval.proofs.evaluator.Evaluator.+eval.Given as goal
 
 -- ---- what takes no step of its own stands below what it may be called from; a turn has taken a step
@@ -264,3 +270,145 @@ invariant-set-loop-i g l = record {
   values : AllHonest l.self l.values;
   falls : l.self.steps ≤ l.fn.self.steps;
 }
+-- ---- matching rows
+
+abbrev pub decreases-match_row : goal.decreases-match_row
+decreases-match_row g l = 8000 * l.self.now.steps + 7600
+
+abbrev pub decreases-member_row : goal.decreases-member_row
+decreases-member_row g l = 8000 * l.self.now.steps + 7600
+
+abbrev pub decreases-count_row : goal.decreases-count_row
+decreases-count_row g l = 8000 * l.self.now.steps + 7600
+
+abbrev pub decreases-cases_row : goal.decreases-cases_row
+decreases-cases_row g l = 8000 * l.self.now.steps + 7600
+
+abbrev pub decreases-delete_cases_row : goal.decreases-delete_cases_row
+decreases-delete_cases_row g l = 8000 * l.self.now.steps + 7600
+
+abbrev pub decreases-free_row : goal.decreases-free_row
+decreases-free_row g l = 8000 * l.self.now.steps + 7600
+
+abbrev pub decreases-any_matches : goal.decreases-any_matches
+decreases-any_matches g l = 8000 * l.self.now.steps + 3800
+
+abbrev pub decreases-count_matching : goal.decreases-count_matching
+decreases-count_matching g l = 8000 * l.self.now.steps + 3800
+
+abbrev pub decreases-sifted : goal.decreases-sifted
+decreases-sifted g l = 8000 * l.self.now.steps + 3800
+
+abbrev pub decreases-cases_in : goal.decreases-cases_in
+decreases-cases_in g l = 8000 * l.self.now.steps + 3900
+
+abbrev pub decreases-cases_by : goal.decreases-cases_by
+decreases-cases_by g l = 8000 * l.self.now.steps + 3800
+
+abbrev pub decreases-any_part : goal.decreases-any_part
+decreases-any_part g l = 8000 * l.self.now.steps + (4000 + 2 * depth (plain l.e.now))
+
+abbrev pub decreases-any_part_in : goal.decreases-any_part_in
+decreases-any_part_in g l = 8000 * l.self.now.steps + (4001 + 2 * depths (tree.from_list (trees l.elements.now)))
+
+abbrev pub invariant-any_matches-loop-i : goal.invariant-any_matches-loop-i
+invariant-any_matches-loop-i g l = record {
+  leads : Leads (match_rows.any_matches (plain l.fn.p) (trees l.fn.elements)) l.fn.self (match_rows.any_matches (plain l.p) (trees (drop l.i l.elements))) l.self;
+  sound : Sound l.self;
+  pattern : Honest l.self l.p;
+  elements : AllHonest l.self l.elements;
+  falls : l.self.steps ≤ l.fn.self.steps;
+}
+
+abbrev pub invariant-count_matching-loop-i : goal.invariant-count_matching-loop-i
+invariant-count_matching-loop-i g l = record {
+  leads : Leads (match_rows.count_matching 0 (plain l.fn.p) (trees l.fn.elements)) l.fn.self (match_rows.count_matching l.count (plain l.p) (trees (drop l.i l.elements))) l.self;
+  sound : Sound l.self;
+  pattern : Honest l.self l.p;
+  elements : AllHonest l.self l.elements;
+  few : l.count ≤ l.i;
+  falls : l.self.steps ≤ l.fn.self.steps;
+}
+
+abbrev pub invariant-sifted-loop-i : goal.invariant-sifted-loop-i
+invariant-sifted-loop-i g l = record {
+  leads : Leads (sifted l.wanted [] (plain l.fn.p) (trees l.fn.elements)) l.fn.self (sifted l.wanted (trees l.found.items) (plain l.p) (trees (drop l.i l.elements))) l.self;
+  sound : Sound l.self;
+  pattern : Honest l.self l.p;
+  elements : AllHonest l.self l.elements;
+  found : AllHonest l.self l.found.items;
+  falls : l.self.steps ≤ l.fn.self.steps;
+}
+
+abbrev pub invariant-cases_by-loop-i : goal.invariant-cases_by-loop-i
+invariant-cases_by-loop-i g l = record {
+  leads : Leads (match_rows.cases_by [] (plain_rule l.fn.rule) (trees l.fn.elements)) l.fn.self (match_rows.cases_by (trees l.found.items) (plain_rule l.rule) (trees (drop l.i l.elements))) l.self;
+  sound : Sound l.self;
+  rule : HonestRule l.self.store l.rule;
+  elements : AllHonest l.self l.elements;
+  found : AllHonest l.self l.found.items;
+  falls : l.self.steps ≤ l.fn.self.steps;
+}
+
+abbrev pub invariant-any_part_in-loop-i : goal.invariant-any_part_in-loop-i
+invariant-any_part_in-loop-i g l = record {
+  leads : Leads (match_rows.any_matches (plain l.fn.p) (match_rows.parts_in (tree.from_list (trees l.fn.elements)))) l.fn.self (match_rows.any_matches (plain l.p) (match_rows.parts_in (tree.from_list (trees (drop l.i l.elements))))) l.self;
+  sound : Sound l.self;
+  pattern : Honest l.self l.p;
+  elements : AllHonest l.self l.elements;
+  falls : l.self.steps ≤ l.fn.self.steps;
+}
+
+-- ---- replacement
+
+abbrev pub decreases-replace_row : goal.decreases-replace_row
+decreases-replace_row g l = 8000 * l.self.now.steps + 7600
+
+abbrev pub decreases-replace_all_row : goal.decreases-replace_all_row
+decreases-replace_all_row g l = 8000 * l.self.now.steps + 7600
+
+abbrev pub decreases-replace_repeated_row : goal.decreases-replace_repeated_row
+decreases-replace_repeated_row g l = 8000 * l.self.now.steps + 7600
+
+abbrev pub decreases-replace_repeated : goal.decreases-replace_repeated
+decreases-replace_repeated g l = 8000 * l.self.now.steps + 7500
+
+abbrev pub decreases-first_result : goal.decreases-first_result
+decreases-first_result g l = 8000 * l.self.now.steps + 3600
+
+abbrev pub decreases-replace_all : goal.decreases-replace_all
+decreases-replace_all g l = 8000 * l.self.now.steps + (4000 + 2 * depth (plain l.e.now))
+
+abbrev pub decreases-replace_each : goal.decreases-replace_each
+decreases-replace_each g l = 8000 * l.self.now.steps + (4001 + 2 * depths (tree.from_list (trees l.args.now)))
+
+abbrev pub invariant-first_result-loop-i : goal.invariant-first_result-loop-i
+invariant-first_result-loop-i g l = record {
+  leads : Leads (matching.trial (map plain_rule l.fn.rules) (plain l.fn.e)) l.fn.self (matching.trial (map plain_rule (drop l.i l.rules)) (plain l.e)) l.self;
+  sound : Sound l.self;
+  rules : AllHonestRules l.self l.rules;
+  honest : Honest l.self l.e;
+  falls : l.self.steps ≤ l.fn.self.steps;
+}
+
+abbrev pub invariant-replace_each-loop-i : goal.invariant-replace_each-loop-i
+invariant-replace_each-loop-i g l = record {
+  leads : Leads (replacing_each (Some []) (map plain_rule l.fn.rules) (trees l.fn.args)) l.fn.self (replacing_each (option_map trees (each_of (take l.i l.args) l.before)) (map plain_rule l.rules) (trees (drop l.i l.args))) l.self;
+  sound : Sound l.self;
+  rules : AllHonestRules l.self l.rules;
+  args : AllHonest l.self l.args;
+  before : AllHonestMaybe l.self (each_of (take l.i l.args) l.before);
+  falls : l.self.steps ≤ l.fn.self.steps;
+}
+
+abbrev pub invariant-replace_repeated-loop-subject : goal.invariant-replace_repeated-loop-subject
+invariant-replace_repeated-loop-subject g l = record {
+  passing : (n : ℕ) → l.fn.self.steps < n → Passing n (map plain_rule l.fn.rules) (plain l.fn.first) l.fn.self (plain l.subject) l.self;
+  sound : Sound l.self;
+  rules : AllHonestRules l.self l.rules;
+  honest : Honest l.self l.subject;
+  falls : l.self.steps ≤ l.fn.self.steps;
+}
+
+abbrev pub decreases-replace_repeated-loop-subject : goal.decreases-replace_repeated-loop-subject
+decreases-replace_repeated-loop-subject g l = l.self.steps
