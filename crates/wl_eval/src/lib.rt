@@ -3,6 +3,7 @@
 
 mod applying;
 mod built_in;
+mod control_rows;
 mod defining;
 mod effects;
 mod elements;
@@ -12,6 +13,7 @@ mod evaluation;
 mod evaluator;
 mod guard;
 mod history_rows;
+mod iterator;
 mod kind;
 pub mod laws;
 mod levels;
@@ -21,6 +23,7 @@ mod messages;
 mod operands;
 mod recall;
 mod refusals;
+mod replies;
 mod runs;
 mod shaping;
 mod trial;
