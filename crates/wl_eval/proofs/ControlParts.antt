@@ -451,3 +451,8 @@ finishes_exit x row k k1 t r e h m = subst (λ z. Finishes x row k z k1 t) (sym 
 
 pub comes_exit : (x : Option Name) (row : Asks) (k k1 : Evaluator) (s : Stand) (t : Option Taken) (r : Result Outcome Stop) (e : Stop) → IsErrAnd r (λ d. d ≡ e) → Finishes x row k (Err e) k1 t → Comes x row k s r k1 t
 comes_exit x row k k1 s t r e h m = subst (λ z. Comes x row k s z k1 t) (sym (exit_is r e h)) m
+
+-- where it isn't something
+pub none_is : {A : Type 0} (o : Option A) → ((a : A) → o ≡ Some a → ⊥) → o ≡ None
+none_is None h = refl
+none_is (Some a) h = absurd (h a refl)

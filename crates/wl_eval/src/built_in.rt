@@ -82,6 +82,7 @@ impl Evaluator {
         if let Some(kind) = Kind::named(name) {
             return self.other_row(kind, args, work);
         }
+        let _count = args.len();
         let started = Cursor::start(self.alloc, name, args)?;
         if let Some(cursor) = started {
             return self.control_row(cursor, name, args, work);

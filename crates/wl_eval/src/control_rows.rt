@@ -167,6 +167,7 @@ impl Evaluator {
                 Ok(Outcome::Goes(Reply::Value(value)))
             }
             Ask::Matches(e, pattern) => {
+                let _steps = self.steps;
                 let matched = self.matches(&pattern, &e, work)?;
                 Ok(Outcome::Goes(Reply::Matched(matched)))
             }
