@@ -456,3 +456,16 @@ comes_exit x row k k1 s t r e h m = subst (λ z. Comes x row k s z k1 t) (sym (e
 pub none_is : {A : Type 0} (o : Option A) → ((a : A) → o ≡ Some a → ⊥) → o ≡ None
 none_is None h = refl
 none_is (Some a) h = absurd (h a refl)
+
+-- ---- a value for the iterator's name
+
+-- without a name nothing is set
+pub set_nothing : (x : Option Name) (t : Option Taken) (v : Tree) (k : Evaluator) → x ≡ None → Plays (set_iterator x v (set_aside x t)) k (Ok (set_aside x t)) k false
+set_nothing x t v k e = subst (λ z. Plays (set_iterator z v (set_aside z t)) k (Ok (set_aside z t)) k false) (sym e) plays_done
+
+pub set_named : (x : Option Name) (y : Name) (t n : Option Taken) (v : Tree) (k k1 : Evaluator) → x ≡ Some y → Plays (set_iterator (Some y) v (set_aside (Some y) t)) k (Ok (set_aside (Some y) n)) k1 false → Plays (set_iterator x v (set_aside x t)) k (Ok (set_aside x n)) k1 false
+set_named x y t n v k k1 e h = subst (λ z. Plays (set_iterator z v (set_aside z t)) k (Ok (set_aside z n)) k1 false) (sym e) h
+
+-- what is set aside after it
+pub ready_set : (x : Option Name) (y : Name) (n : Option Taken) (k k1 : Evaluator) {R : Type 0} {p : Prog R} {r : Result R End} {o : Bool} → x ≡ Some y → Sound k → Plays p k r k1 o → AreTaken k1 (Some y) n → Ready x k k1 n
+ready_set x y n k k1 e s h w = record { sound = h.sound s; taken = subst (λ z. AreTaken k1 z n) (sym e) w; grows = h.grows }

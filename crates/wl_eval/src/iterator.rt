@@ -3,6 +3,7 @@ ghost use Rattle.std.specs.Prelude.{◌≡◌, ◌&&◌, not, true, false, codes
 ghost use Rattle.wl_control.specs.Iterators.{iterator};
 ghost use Rattle.wl_expr.specs.Stamped as stamped;
 ghost use Rattle.wl_expr.specs.Stamped.{plain};
+ghost use Rattle.wl_expr.specs.Words.{overflow_form};
 ghost use Rattle.wl_ports.specs.Name.{IsName};
 ghost use Rattle.wl_eval.specs.Control as control;
 ghost use Rattle.wl_eval.specs.LeftSides.{is_limit, limit_allows};
@@ -81,7 +82,7 @@ fn limit_refuses(name: &str, value: &Expr) -> bool
 }
 
 /// `Overflow[]`.
-fn overflow_form(alloc: Global) -> Result<Expr, Memory>
+fn overflow_made(alloc: Global) -> Result<Expr, Memory>
     ensures { IfOk result (λ e. e ≡ stamped.node None (stamped.symbol None (codes "Overflow")) stamped.none) }
 {
     let head = symbol(alloc, "Overflow")?;
@@ -96,11 +97,12 @@ impl Evaluator {
     /// `Overflow[]`, with its message.
     pub(crate) fn overflow<L: Ledger>(&mut self, work: &mut Work<L>) -> Result<Expr, Memory>
         ensures played { IfOk result (λ e. Plays control.overflow self.old (Ok (Some (plain e))) self.new false) }
+        ensures form { IfOk result (λ e. plain e ≡ overflow_form) }
         ensures honest { IfOk result (Honest self.new) }
         ensures kept { self.new.steps ≡ self.old.steps }
     {
         self.issue("General", "ovfl", &[], work)?;
-        overflow_form(self.alloc)
+        overflow_made(self.alloc)
     }
 
     /// Whether an iterator's name gets this value. A message tells why not.

@@ -54,12 +54,15 @@ use Rattle.wl_control.specs.Stand.{IsAwaited, after, start, starts}
 use Rattle.wl_control.specs.Table as control
 use Rattle.wl_control.specs.declared.cursor.Cursor.{Cursor}
 use Rattle.wl_expr.proofs.Small.{fits_decides}
+use Rattle.wl_expr.specs.Words.{fits}
+use Rattle.wl_ports.specs.Name.{IsName}
+use Rattle.std.specs.Borrow.{Bor}
 use Rattle.wl_eval.specs.Control.{iterated, iterator_name, played}
 use Rattle.wl_eval.specs.Honest.{Grows}
-use Rattle.wl_eval.specs.Replies.{Comes, Finishes, HonestAsk, Ready, caught_reply, set_aside, told_by}
+use Rattle.wl_eval.specs.Replies.{AreTaken, Comes, Finishes, HonestAsk, Ready, caught_reply, set_aside, told_by}
 use Rattle.wl_eval.specs.declared.replies.Outcome.TheVariants as outcome
 use Rattle.wl_eval.specs.declared.replies.Reply.TheVariants as replies
-use Rattle.wl_eval.proofs.ControlParts.{asked_honest, catches_behind, catches_not, caught_goes, caught_played, caught_stops, comes_at, comes_exit, finishes_exit, holds_next, let_goes, match_goes, match_stops, none_is, none_taken, overflow_ends, pass_goes, pass_stops, proceeds_ends, proceeds_first, proceeds_on, protected_row, ready_at, ready_exit, ready_large, ready_same, ready_stop, ready_then, refused_finishes, result_ends, row_begins, row_bounded, started, starts_row, unchanged_ends, unprotected_row, value_goes, value_stops}
+use Rattle.wl_eval.proofs.ControlParts.{asked_honest, catches_behind, catches_not, caught_goes, caught_played, caught_stops, comes_at, comes_exit, finishes_exit, holds_next, let_goes, match_goes, match_stops, none_is, none_taken, overflow_ends, pass_goes, pass_stops, proceeds_ends, proceeds_first, proceeds_on, protected_row, ready_at, ready_exit, ready_large, ready_same, ready_set, ready_stop, ready_then, refused_finishes, result_ends, row_begins, row_bounded, set_named, set_nothing, started, starts_row, unchanged_ends, unprotected_row, value_goes, value_stops}
 use Rattle.wl_eval.proofs.Tables.{row_control}
 use Rattle.wl_eval.proofs.evaluator.Evaluator.+eval.Goals as goal
 
@@ -1124,7 +1127,7 @@ control_row-returns-then-is_protected-clause-played g t c row e =
 pub control_row-drive-requires-2 : goal.control_row-drive-requires-2
 control_row-drive-requires-2 g t c κs within =
     let h = c.in_ok-is_protected.ensures.played in
-    (search rules, (within, (h.sound c.requires.sound, (?, (c.requires.awaits, (record { parts = c.args.args.now; honest = all_later h _ c.requires.args; from = λ ms w. (c.requires.held ms w, tt) }, c.requires.bounded))))))
+    (search rules, (within, (h.sound c.requires.sound, (subst (λ (o : Option (Bor (List ℕ))). IfSome o (λ z. IsName z.now)) c.in-Some.is c.iterator_name.ensures.named, (c.requires.awaits, (record { parts = c.args.args.now; honest = all_later h _ c.requires.args; from = λ ms w. (c.requires.held ms w, tt) }, c.requires.bounded))))))
 
 pub control_row-returns-clause-played : goal.control_row-returns-clause-played
 control_row-returns-clause-played g t c row e =
@@ -1184,10 +1187,23 @@ answer-reply-requires g t c κs within =
     (search rules, (within, (r.sound, (c.requires.name, (r.taken, h)))))
 
 pub answer-returns-in_err-outcome-clause-played : goal.answer-returns-in_err-outcome-clause-played
-answer-returns-in_err-outcome-clause-played g t c row e = ?
+answer-returns-in_err-outcome-clause-played g t c row e =
+    let x = option_copied c.args.name in
+    let q = c.questions in
+    let k0 = c.args.self.now in
+    let a = after (stand q.cursor) (told_by q.reply) in
+    let s = stand c.asked.new.cursor in
+    let led = subst (λ z. Leads (played x None row) k0 (played x (set_aside x q.taken) a) z) (sym c.in_ok-ask.ensures.same) (q.invariant.leads row e) in
+    finishes_exit x row k0 c.reply.new.self c.reply.new.taken c.from_residual-in_err-outcome.result _ c.from_residual-in_err-outcome.ensures.1
+    (c.in_err-outcome.ensures.played row k0 a s led c.in_ok-ask.ensures.posed c.catches.ensures)
 
 pub answer-returns-in_err-outcome-clause-ready : goal.answer-returns-in_err-outcome-clause-ready
-answer-returns-in_err-outcome-clause-ready g t c = ?
+answer-returns-in_err-outcome-clause-ready g t c =
+    let x = option_copied c.args.name in
+    let q = c.questions in
+    let k0 = c.args.self.now in
+    let r = subst (λ z. Ready x k0 z q.taken) (sym c.in_ok-ask.ensures.same) q.invariant.ready in
+    ready_exit c.from_residual-in_err-outcome.result _ c.from_residual-in_err-outcome.ensures.1 (λ n. ready_then x q.taken c.reply.new.taken k0 c.asked.new.self c.reply.new.self r (c.in_err-outcome.ensures.ready n))
 
 pub answer-questions-preserved : goal.answer-questions-preserved
 answer-questions-preserved g t c =
@@ -1216,10 +1232,22 @@ answer-questions-preserved g t c =
     }
 
 pub answer-returns-in-Ends-clause-played : goal.answer-returns-in-Ends-clause-played
-answer-returns-in-Ends-clause-played g t c row e = ?
+answer-returns-in-Ends-clause-played g t c row e =
+    let x = option_copied c.args.name in
+    let q = c.questions in
+    let k0 = c.args.self.now in
+    let a = after (stand q.cursor) (told_by q.reply) in
+    let s = stand c.asked.new.cursor in
+    let led = subst (λ z. Leads (played x None row) k0 (played x (set_aside x q.taken) a) z) (sym c.in_ok-ask.ensures.same) (q.invariant.leads row e) in
+    subst (λ z. Comes x row k0 s (Ok z) c.reply.new.self c.reply.new.taken) c.in-Ends.is (c.in_ok-outcome.ensures.played row k0 a s led c.in_ok-ask.ensures.posed c.catches.ensures)
 
 pub answer-returns-in-Ends-clause-ready : goal.answer-returns-in-Ends-clause-ready
-answer-returns-in-Ends-clause-ready g t c = ?
+answer-returns-in-Ends-clause-ready g t c n =
+    let x = option_copied c.args.name in
+    let q = c.questions in
+    let k0 = c.args.self.now in
+    let r = subst (λ z. Ready x k0 z q.taken) (sym c.in_ok-ask.ensures.same) q.invariant.ready in
+    ready_then x q.taken c.reply.new.taken k0 c.asked.new.self c.reply.new.self r (c.in_ok-outcome.ensures.ready refl)
 
 pub answer-unreachable-requires : goal.answer-unreachable-requires
 answer-unreachable-requires g t c = absurd (c.questions-test.false (proceeds_ends c.questions._answered c.args.self.now.steps c.questions.self.steps _ (omega arith) c.questions.invariant.proceeds))
@@ -1315,10 +1343,43 @@ pub reply-returns-in-Matches-clause-ready : goal.reply-returns-in-Matches-clause
 reply-returns-in-Matches-clause-ready g t c n = ready_at (option_copied c.args.name) c.args.taken.now c.args.self.now c.matches.new.self c.requires.sound c.requires.taken (c.in_ok-matched.ensures.played (2 ^ 64) (omega arith)).0
 
 pub reply-returns-in-Let-in_default-clause-played : goal.reply-returns-in-Let-in_default-clause-played
-reply-returns-in-Let-in_default-clause-played g t c row k a s l p w = ?
+reply-returns-in-Let-in_default-clause-played g t c row k a s l p w =
+    let x = option_copied c.args.name in
+    let u = c.args.taken.now in
+    let k1 = c.args.self.now in
+    let n = ap option_copied (none_is _ c.in_default-name.not-Some) in
+    comes_at x row k a _ s (Ok (outcome.Goes replies.Went)) k1 u p
+    (let_goes x row k u a k1 l u (plain c.in-Let.value) (p.question ∙ ap (λ z. Some (plain_ask z)) c.in-Let.is) (set_nothing x u (plain c.in-Let.value) k1 n))
+
+pub reply-returns-in-Let-in_default-clause-ready : goal.reply-returns-in-Let-in_default-clause-ready
+reply-returns-in-Let-in_default-clause-ready g t c n = ready_same (option_copied c.args.name) c.args.taken.now c.args.self.now c.requires.sound c.requires.taken
+
+pub reply-set_iterator-requires : goal.reply-set_iterator-requires
+reply-set_iterator-requires g t c =
+    record {
+      sound = c.requires.sound;
+      name = subst (λ (o : Option (Bor (List ℕ))). IfSome o (λ z. IsName z.now)) c.in-Some-name.is c.requires.name;
+      honest = subst (HonestAsk c.args.self.now) c.in-Let.is c.requires.honest;
+      taken = subst (λ z. AreTaken c.args.self.now z c.args.taken.now) (ap option_copied c.in-Some-name.is) c.requires.taken;
+    }
 
 pub reply-returns-in-Let-clause-played : goal.reply-returns-in-Let-clause-played
-reply-returns-in-Let-clause-played g t c row k a s l p w = ?
+reply-returns-in-Let-clause-played g t c row k a s l p w =
+    let x = option_copied c.args.name in
+    let u = c.args.taken.now in
+    let n = c.set_iterator.new.taken in
+    let k1 = c.args.self.now in
+    let k2 = c.set_iterator.new.self in
+    let v = plain c.in-Let.value in
+    let e = ap option_copied c.in-Some-name.is in
+    comes_at x row k a _ s (Ok (outcome.Goes replies.Went)) k2 n p
+    (let_goes x row k u a k1 l n v (p.question ∙ ap (λ z. Some (plain_ask z)) c.in-Let.is) (set_named x c.in-Some-name.name.now u n v k1 k2 e c.in_ok-set_iterator.ensures.played))
+
+pub reply-returns-in-Let-clause-ready : goal.reply-returns-in-Let-clause-ready
+reply-returns-in-Let-clause-ready g t c n =
+    let x = option_copied c.args.name in
+    let e = ap option_copied c.in-Some-name.is in
+    ready_set x c.in-Some-name.name.now c.set_iterator.new.taken c.args.self.now c.set_iterator.new.self e c.requires.sound c.in_ok-set_iterator.ensures.played c.in_ok-set_iterator.ensures.taken
 
 pub reply-returns-in_err-take_step-clause-played : goal.reply-returns-in_err-take_step-clause-played
 reply-returns-in_err-take_step-clause-played g t c row k a s l p w =
@@ -1343,7 +1404,12 @@ pub reply-returns-in-Pass-clause-ready : goal.reply-returns-in-Pass-clause-ready
 reply-returns-in-Pass-clause-ready g t c n = ready_at (option_copied c.args.name) c.args.taken.now c.args.self.now c.take_step.new.self c.requires.sound c.requires.taken c.in_ok-take_step.ensures.played.0
 
 pub reply-returns-in-Overflow-clause-played : goal.reply-returns-in-Overflow-clause-played
-reply-returns-in-Overflow-clause-played g t c row k a s l p w = ?
+reply-returns-in-Overflow-clause-played g t c row k a s l p w =
+    let h = c.in_ok-form.ensures in
+    overflow_ends (option_copied c.args.name) row k c.args.taken.now a c.args.self.now l c.in_ok-form.form (p.question ∙ ap (λ z. Some (plain_ask z)) c.in-Overflow.is) (subst (λ z. fits z ≡ true) (sym h.form) refl) h.played h.honest
+
+pub reply-returns-in-Overflow-clause-ready : goal.reply-returns-in-Overflow-clause-ready
+reply-returns-in-Overflow-clause-ready g t c n = ready_at (option_copied c.args.name) c.args.taken.now c.args.self.now c.overflow.new.self c.requires.sound c.requires.taken c.in_ok-form.ensures.played
 
 pub reply-returns-in-Done-clause-played : goal.reply-returns-in-Done-clause-played
 reply-returns-in-Done-clause-played g t c row k a s l p w =
