@@ -43,3 +43,4 @@ mod HistoryRowParts
 mod DefiningParts
 mod IteratorParts
 mod ControlParts
+mod Swapping
