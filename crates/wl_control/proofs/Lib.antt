@@ -1,5 +1,6 @@
--- For use from other crates: which answers are waited for behind a question.
+-- For use from other crates: which answers are waited for behind a question, and how often a row asks between two passes.
 pub mod Waiting
+pub mod Pacing
 -- For this crate's own proofs.
 mod Collecting
 mod Counts

@@ -6,8 +6,9 @@ pub mod Families
 pub mod Iterators
 pub mod Loops
 pub mod Table
--- What contracts say of a cursor: what it waits for, and the expressions that it holds.
+-- What contracts say of a cursor: what it waits for, how often it asks, and the expressions that it holds.
 pub mod Stand
+pub mod Pacing
 pub mod Places
 pub mod Kinds
 pub mod Cursors

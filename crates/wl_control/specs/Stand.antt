@@ -71,14 +71,12 @@ after (for_match k) (matched b) = k b
 after (for_leave k) went = k tt
 after s a = stays
 
--- what is collected is too heavy, or what is asked or given first is past the limits of an expression
+-- what is collected is too heavy, or what is evaluated or given first is past the limits of an expression; what is matched or set is there already
 abbrev pub IsTooLarge : Asks → Type 0
 IsTooLarge too_large = ⊤
 IsTooLarge (gives t) = ¬ IsWithinLimits t
 IsTooLarge (eval t k) = ¬ IsWithinLimits t
 IsTooLarge (eval_catching t k) = ¬ IsWithinLimits t
-IsTooLarge (matches t p k) = ¬ (IsWithinLimits t × IsWithinLimits p)
-IsTooLarge (let_be v k) = ¬ IsWithinLimits v
 IsTooLarge a = ⊥
 
 -- Break and Continue answer what was asked

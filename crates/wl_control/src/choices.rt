@@ -72,8 +72,6 @@ pub(crate) fn switch_on(switch: Switch, pattern: &Expr) -> Result<Step, ExprFaul
     ensures answer { IsAnswer (matches (plain switch.subject) (plain pattern.now) (switch_asks switch)) result }
     ensures passed { (ms : List Stamped) → SwitchIsFrom ms switch → IsFrom ms pattern.now → IsPassed ms result }
 {
-    let _weight = switch.subject.weight();
-    let _other = pattern.weight();
     let ask = Ask::Matches(switch.subject.copy()?, pattern.copy()?);
     Ok(Step {
         ask,

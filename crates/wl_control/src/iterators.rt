@@ -125,7 +125,6 @@ pub(crate) fn value_from(
         return pass_from(alloc, passes, found, value);
     }
     let number = Expr::num(alloc, value)?;
-    let _weight = number.weight();
     Ok(Step {
         ask: Ask::Let(number),
         place: Place::Leave(Left::Set(passes, found, value)),

@@ -50,3 +50,6 @@ mod DefiningRows
 mod MatchRowParts
 mod ReadRules
 mod ReplaceRowParts
+mod IteratorParts
+mod ControlParts
+mod Swapping

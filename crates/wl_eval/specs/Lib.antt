@@ -37,6 +37,7 @@ pub mod Parts
 pub mod Operands
 pub mod Prepared
 pub mod Replacing
+pub mod Replies
 -- Sessions that are computed.
 pub mod Cells
 pub mod WorkedCells

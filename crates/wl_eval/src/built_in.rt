@@ -82,9 +82,10 @@ impl Evaluator {
         if let Some(kind) = Kind::named(name) {
             return self.other_row(kind, args, work);
         }
-        // Loops and branches come here.
-        if let Some(_) = Cursor::start(self.alloc, name, args)? {
-            return Err(Stop::Memory);
+        let _count = args.len();
+        let started = Cursor::start(self.alloc, name, args)?;
+        if let Some(cursor) = started {
+            return self.control_row(cursor, name, args, work);
         }
         Ok(None)
     }

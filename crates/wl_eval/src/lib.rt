@@ -3,6 +3,7 @@
 
 mod applying;
 mod built_in;
+mod control_rows;
 mod defining;
 mod effects;
 mod elements;
@@ -12,6 +13,7 @@ mod evaluation;
 mod evaluator;
 mod guard;
 mod history_rows;
+mod iterator;
 mod kind;
 pub mod laws;
 mod left_sides;
@@ -26,6 +28,7 @@ mod recall;
 mod refusals;
 mod replace_rows;
 mod rules_in;
+mod replies;
 mod runs;
 mod set_rows;
 mod shaping;

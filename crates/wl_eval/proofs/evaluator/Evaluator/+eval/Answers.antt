@@ -1,4 +1,4 @@
-use Rattle.std.proofs.Common.{rules, ◌≡◌, ◌+◌, ◌∷◌, ◌++◌, [], None, Some, Ok, Err, true, false, option_map, length, drop, refl, sym, ap, ◌∙◌, subst, subst₂, arith, true≢false, ◌^◌, ◌&&◌, ℕ, ◌<◌, not, IfOk, List, map, le_refl}
+use Rattle.std.proofs.Common.{rules, Option, ◌≡◌, ◌+◌, ◌∷◌, ◌++◌, [], None, Some, Ok, Err, true, false, option_map, length, drop, refl, sym, ap, ◌∙◌, subst, subst₂, arith, true≢false, ◌^◌, ◌&&◌, ℕ, ◌<◌, not, IfOk, List, map, le_refl}
 use Rattle.std.specs.Prelude.{codes}
 use Rattle.std.proofs.lemmas.Result.{err_from_is_err_and}
 use Rattle.std.proofs.lemmas.List.{length-map, length-append}
@@ -58,6 +58,24 @@ use Rattle.wl_eval.proofs.MatchRowParts.{any_at, any_none, args_depth, element_d
 use Rattle.wl_eval.proofs.RowParts.{row_at, row_gives, row_made}
 use Rattle.wl_eval.specs.Replacing.{AllHonestMaybe, each_of, part_of, replacing, replacing_each, seen_each, seen_replaced, seen_result}
 use Rattle.wl_eval.proofs.ReplaceRowParts.{below_leads, each_next, each_over, leaf_replaced, node_below, pushed_honest, pushed_trees, rebuilt_honest, rebuilt_is, replacing_is, result_replaced, step_stops, trial_next, became, each_honest, each_later, each_leads, none_is, pass_ends, pass_goes, pass_steps, pass_stops, read_honest, read_is, replace_all_is, replace_is, replace_repeated_is, take_whole}
+use Rattle.std.specs.Prelude.{IfSome, option_copied}
+use Rattle.wl_control.specs.Asks.{Asks}
+use Rattle.wl_control.specs.Cursors.{HoldsFrom}
+use Rattle.wl_control.specs.Places.{plain_ask}
+use Rattle.wl_control.specs.Stand.{IsAwaited, after, start, starts}
+use Rattle.wl_control.specs.Table as control
+use Rattle.wl_control.specs.declared.cursor.Cursor.{Cursor}
+use Rattle.wl_expr.proofs.Small.{fits_decides}
+use Rattle.wl_expr.specs.Words.{fits}
+use Rattle.wl_ports.specs.Name.{IsName}
+use Rattle.std.specs.Borrow.{Bor}
+use Rattle.wl_eval.specs.Control.{iterated, iterator_name, played}
+use Rattle.wl_eval.specs.Honest.{Grows}
+use Rattle.wl_eval.specs.Replies.{AreTaken, Comes, Finishes, HonestAsk, Ready, caught_reply, set_aside, told_by}
+use Rattle.wl_eval.specs.declared.replies.Outcome.TheVariants as outcome
+use Rattle.wl_eval.specs.declared.replies.Reply.TheVariants as replies
+use Rattle.wl_eval.proofs.ControlParts.{asked_honest, catches_behind, catches_not, caught_goes, caught_played, caught_stops, comes_at, comes_exit, finishes_exit, holds_next, let_goes, match_goes, match_stops, none_is, none_taken, overflow_ends, pass_goes, pass_stops, proceeds_ends, proceeds_first, proceeds_on, protected_row, ready_at, ready_exit, ready_large, ready_same, ready_set, ready_stop, ready_then, refused_finishes, result_ends, row_begins, row_bounded, set_named, set_nothing, started, starts_row, unchanged_ends, unprotected_row, value_goes, value_stops}
+use Rattle.wl_eval.proofs.Tables.{row_control}
 use Rattle.wl_eval.proofs.evaluator.Evaluator.+eval.Goals as goal
 
 -- ---- which rule applies
@@ -357,7 +375,7 @@ row-returns-clause-played g t c =
     let a = sym c.named.ensures ∙ ap (option_map algebra.row_by) c.in_default.is in
     let l = sym c.named-2.ensures ∙ ap (option_map lists.row_by) c.in_default-named.is in
     let o = sym c.named-3.ensures ∙ ap (option_map kinds.row_by) c.in_default-named-2.is in
-    let s = none_mapped _ _ (sym c.in_ok-start.ensures.row ∙ ap (option_map stand) c.in_default-2.is) in
+    let s = none_mapped _ _ (sym c.in_ok-started.ensures.row ∙ ap (option_map stand) c.in_default-started.is) in
     (subst (λ p. Plays (sized_row p) c.args.self.now (Ok None) c.args.self.now false) (sym (row_none c.args.name.now es a l o s)) (plays_bind (done None) _ plays_done plays_done), tt)
 
 -- ---- the rules of a node
@@ -1681,3 +1699,346 @@ replace_row-returns-in_default-found-clause-played g t c =
     subst (λ z. Played found_tree (sized_row (match_rows.replace_row (trees c.args.args.now))) c.args.self.now (Ok (Some z)) c.first_result.new.self) (sym c.in_ok-copy.ensures)
     (pair_row found_tree match_rows.replace_row c.args.args.now e r _ _ _ c.in-Some.ensures
     (row_at _ _ _ _ _ (replace_is (plain e) (plain r) (Some rs) is) (row_gives _ _ _ e (plays_bind (matching.trial rs (plain e)) _ none plays_done) ((fits_decides (plain e)).1 c.weight-weight.ensures.fits) honest)))
+-- ---- rows of loops and branches
+
+pub control_row-drive-requires : goal.control_row-drive-requires
+control_row-drive-requires g t c κs within =
+    (search rules, (within, (c.requires.sound, (tt, (c.requires.awaits, (record { parts = c.args.args.now; honest = c.requires.args; from = λ ms w. (c.requires.held ms w, tt) }, c.requires.bounded))))))
+
+pub control_row-returns-in_default-clause-played : goal.control_row-returns-in_default-clause-played
+control_row-returns-in_default-clause-played g t c row e =
+    let es = trees c.args.args.now in
+    let n = ap option_copied (none_is _ c.in_default.not-Some) in
+    subst (λ z. Played found_tree (sized_row (iterated z (row es))) c.args.self.now c.drive.result c.drive.new.self) (sym n ∙ c.iterator_name.ensures.value) (c.drive.ensures.played (row es) e)
+
+pub control_row-returns-then-is_protected-clause-played : goal.control_row-returns-then-is_protected-clause-played
+control_row-returns-then-is_protected-clause-played g t c row e =
+    let es = trees c.args.args.now in
+    let n = sym (ap option_copied c.in-Some.is) ∙ c.iterator_name.ensures.value in
+    subst (λ z. Played found_tree (sized_row (iterated z (row es))) c.args.self.now (Ok None) c.is_protected.new.self) n
+    (protected_row c.in-Some.iterator.now (row es) _ _ c.in_ok-is_protected.is_protected c.in_ok-is_protected.ensures.played c.if-is_protected.true)
+
+pub control_row-drive-requires-2 : goal.control_row-drive-requires-2
+control_row-drive-requires-2 g t c κs within =
+    let h = c.in_ok-is_protected.ensures.played in
+    (search rules, (within, (h.sound c.requires.sound, (subst (λ (o : Option (Bor (List ℕ))). IfSome o (λ z. IsName z.now)) c.in-Some.is c.iterator_name.ensures.named, (c.requires.awaits, (record { parts = c.args.args.now; honest = all_later h _ c.requires.args; from = λ ms w. (c.requires.held ms w, tt) }, c.requires.bounded))))))
+
+pub control_row-returns-clause-played : goal.control_row-returns-clause-played
+control_row-returns-clause-played g t c row e =
+    let es = trees c.args.args.now in
+    let n = sym (ap option_copied c.in-Some.is) ∙ c.iterator_name.ensures.value in
+    subst (λ z. Played found_tree (sized_row (iterated z (row es))) c.args.self.now c.drive-2.result c.drive-2.new.self) n
+    (unprotected_row c.in-Some.iterator.now (row es) _ _ c.in_ok-is_protected.is_protected c.in_ok-is_protected.ensures.played _ _ c.if-is_protected.false (c.drive-2.ensures.played (row es) e))
+
+pub drive-answer-requires : goal.drive-answer-requires
+drive-answer-requires g t c κs within = (search rules, (within, (c.requires.sound, (c.requires.name, (refl, (c.requires.awaits, (c.requires.held, c.requires.bounded)))))))
+
+pub drive-give_back_iterator-requires : goal.drive-give_back_iterator-requires
+drive-give_back_iterator-requires g t c =
+    let n = sym c.stops_by_memory.ensures ∙ c.if-stops_by_memory.false in
+    let r = c.answer.ensures.ready n in
+    record { sound = r.sound; taken = r.taken }
+
+pub drive-returns-clause-played : goal.drive-returns-clause-played
+drive-returns-clause-played g t c row e = c.answer.ensures.played row e c.give_back_iterator.new.self c.give_back_iterator.ensures.played
+
+-- ---- from question to question
+
+pub answer-questions-init : goal.answer-questions-init
+answer-questions-init g t c =
+    let x = option_copied c.args.name in
+    record {
+      leads = λ row e. row_begins x row (stand c.args.first) c.args.taken.now c.args.self.now c.requires.taken e;
+      awaited = c.requires.awaits;
+      ready = ready_same x c.args.taken.now c.args.self.now c.requires.sound (none_taken c.args.self.now x c.args.taken.now c.requires.taken);
+      holds = c.requires.held;
+      proceeds = proceeds_first c.args.self.now.steps (after (stand c.args.first) start) c.requires.bounded;
+      falls = le_refl _;
+    }
+
+pub answer-asked-requires : goal.answer-asked-requires
+answer-asked-requires g t c = c.questions.invariant.awaited
+
+pub answer-returns-in_err-ask-clause-played : goal.answer-returns-in_err-ask-clause-played
+answer-returns-in_err-ask-clause-played g t c row e =
+    let x = option_copied c.args.name in
+    let q = c.questions in
+    finishes_exit x row c.args.self.now c.asked.new.self q.taken c.from_residual.result _ c.from_residual.ensures.1
+    (refused_finishes x row c.args.self.now q.taken (after (stand q.cursor) (told_by q.reply)) q.self c.asked.new.self _ q.invariant.ready.sound (q.invariant.leads row e) (c.in_err-ask.ensures.refused _ refl))
+
+pub answer-returns-in_err-ask-clause-ready : goal.answer-returns-in_err-ask-clause-ready
+answer-returns-in_err-ask-clause-ready g t c =
+    let x = option_copied c.args.name in
+    let q = c.questions in
+    ready_exit c.from_residual.result _ c.from_residual.ensures.1
+    (λ n. ready_then x q.taken q.taken c.args.self.now q.self c.asked.new.self q.invariant.ready (ready_large x q.taken q.self c.asked.new.self q.invariant.ready.sound q.invariant.ready.taken (after (stand q.cursor) (told_by q.reply)) _ (c.in_err-ask.ensures.refused _ refl) n))
+
+pub answer-reply-requires : goal.answer-reply-requires
+answer-reply-requires g t c κs within =
+    let q = c.questions in
+    let r = subst (λ z. Ready (option_copied c.args.name) c.args.self.now z q.taken) (sym c.in_ok-ask.ensures.same) q.invariant.ready in
+    let h = subst (λ z. HonestAsk z c.in_ok-ask.ask) (sym c.in_ok-ask.ensures.same) (asked_honest q.self q.cursor c.asked.new.cursor q.reply c.in_ok-ask.ask q.invariant.holds c.in_ok-ask.ensures.passed) in
+    (search rules, (within, (r.sound, (c.requires.name, (r.taken, h)))))
+
+pub answer-returns-in_err-outcome-clause-played : goal.answer-returns-in_err-outcome-clause-played
+answer-returns-in_err-outcome-clause-played g t c row e =
+    let x = option_copied c.args.name in
+    let q = c.questions in
+    let k0 = c.args.self.now in
+    let a = after (stand q.cursor) (told_by q.reply) in
+    let s = stand c.asked.new.cursor in
+    let led = subst (λ z. Leads (played x None row) k0 (played x (set_aside x q.taken) a) z) (sym c.in_ok-ask.ensures.same) (q.invariant.leads row e) in
+    finishes_exit x row k0 c.reply.new.self c.reply.new.taken c.from_residual-in_err-outcome.result _ c.from_residual-in_err-outcome.ensures.1
+    (c.in_err-outcome.ensures.played row k0 a s led c.in_ok-ask.ensures.posed c.catches.ensures)
+
+pub answer-returns-in_err-outcome-clause-ready : goal.answer-returns-in_err-outcome-clause-ready
+answer-returns-in_err-outcome-clause-ready g t c =
+    let x = option_copied c.args.name in
+    let q = c.questions in
+    let k0 = c.args.self.now in
+    let r = subst (λ z. Ready x k0 z q.taken) (sym c.in_ok-ask.ensures.same) q.invariant.ready in
+    ready_exit c.from_residual-in_err-outcome.result _ c.from_residual-in_err-outcome.ensures.1 (λ n. ready_then x q.taken c.reply.new.taken k0 c.asked.new.self c.reply.new.self r (c.in_err-outcome.ensures.ready n))
+
+pub answer-questions-preserved : goal.answer-questions-preserved
+answer-questions-preserved g t c =
+    let x = option_copied c.args.name in
+    let q = c.questions in
+    let k0 = c.args.self.now in
+    let k1 = c.asked.new.self in
+    let k2 = c.reply.new.self in
+    let same = c.in_ok-ask.ensures.same in
+    let a = after (stand q.cursor) (told_by q.reply) in
+    let s = stand c.asked.new.cursor in
+    let o = c.in_ok-outcome.ensures in
+    let led = λ (row : Asks) (e : stand c.args.first ≡ starts row). subst (λ z. Leads (played x None row) k0 (played x (set_aside x q.taken) a) z) (sym same) (q.invariant.leads row e) in
+    let goes = λ (row : Asks) (e : stand c.args.first ≡ starts row). subst (λ z. Comes x row k0 s (Ok z) k2 c.reply.new.taken) c.in-Goes.is (o.played row k0 a s (led row e) c.in_ok-ask.ensures.posed c.catches.ensures) in
+    let first = starts_row (stand c.args.first) c.requires.awaits in
+    let one = goes first.0 first.1 in
+    let there = o.ready refl in
+    let r1 = subst (λ z. Ready x k0 z q.taken) (sym same) q.invariant.ready in
+    record {
+      leads = λ row e. (goes row e).leads;
+      awaited = one.awaited;
+      ready = ready_then x q.taken c.reply.new.taken k0 k1 k2 r1 there;
+      holds = holds_next q.self k2 q.cursor c.asked.new.cursor q.reply c.in-Goes.next c.in_ok-ask.ask q.invariant.holds c.in_ok-ask.ensures.passed (subst (λ (z : Evaluator). Grows z.store k2.store) same there.grows) one.honest;
+      proceeds = proceeds_on q._answered k0.steps q.self.steps k2.steps (omega arith) a (plain_ask c.in_ok-ask.ask) s (told_by c.in-Goes.next) c.in_ok-ask.ensures.posed one.awaited (λ z. let l = o.less z in omega (arith, l)) q.invariant.proceeds;
+      falls = omega arith;
+    }
+
+pub answer-returns-in-Ends-clause-played : goal.answer-returns-in-Ends-clause-played
+answer-returns-in-Ends-clause-played g t c row e =
+    let x = option_copied c.args.name in
+    let q = c.questions in
+    let k0 = c.args.self.now in
+    let a = after (stand q.cursor) (told_by q.reply) in
+    let s = stand c.asked.new.cursor in
+    let led = subst (λ z. Leads (played x None row) k0 (played x (set_aside x q.taken) a) z) (sym c.in_ok-ask.ensures.same) (q.invariant.leads row e) in
+    subst (λ z. Comes x row k0 s (Ok z) c.reply.new.self c.reply.new.taken) c.in-Ends.is (c.in_ok-outcome.ensures.played row k0 a s led c.in_ok-ask.ensures.posed c.catches.ensures)
+
+pub answer-returns-in-Ends-clause-ready : goal.answer-returns-in-Ends-clause-ready
+answer-returns-in-Ends-clause-ready g t c n =
+    let x = option_copied c.args.name in
+    let q = c.questions in
+    let k0 = c.args.self.now in
+    let r = subst (λ z. Ready x k0 z q.taken) (sym c.in_ok-ask.ensures.same) q.invariant.ready in
+    ready_then x q.taken c.reply.new.taken k0 c.asked.new.self c.reply.new.self r (c.in_ok-outcome.ensures.ready refl)
+
+pub answer-unreachable-requires : goal.answer-unreachable-requires
+answer-unreachable-requires g t c = absurd (c.questions-test.false (proceeds_ends c.questions._answered c.args.self.now.steps c.questions.self.steps _ (omega arith) c.questions.invariant.proceeds))
+
+-- ---- a question
+
+pub caught-evaluate-requires : goal.caught-evaluate-requires
+caught-evaluate-requires g t c κs within = (search rules, (within, (c.requires.sound, c.requires.honest)))
+
+pub caught-returns-clause-played : goal.caught-returns-clause-played
+caught-returns-clause-played g t c =
+    let f = (fits_decides (plain c.args.e)).1 c.weight.ensures.fits in
+    caught_played (plain c.args.e) c.args.self.now c.evaluate.new.self c.in_ok-end.end c.caught.result f c.in_ok-end.ensures.played c.caught.ensures
+
+pub reply-caught-requires : goal.reply-caught-requires
+reply-caught-requires g t c κs within = (search rules, (within, (c.requires.sound, subst (HonestAsk c.args.self.now) c.in-Eval.is c.requires.honest)))
+
+pub reply-returns-in_err-reply-clause-played : goal.reply-returns-in_err-reply-clause-played
+reply-returns-in_err-reply-clause-played g t c row k a s l p w =
+    let x = option_copied c.args.name in
+    let u = c.args.taken.now in
+    comes_exit x row k c.caught.new.self s u c.from_residual.result _ c.from_residual.ensures.1
+    (caught_stops x row k u a c.args.self.now l (plain c.in-Eval.e) _ (p.question ∙ ap (λ z. Some (plain_ask z)) c.in-Eval.is) (catches_behind a _ s c.args.catches p w c.if-catches.true) c.in_err-reply.ensures.played)
+
+pub reply-returns-in_err-reply-clause-ready : goal.reply-returns-in_err-reply-clause-ready
+reply-returns-in_err-reply-clause-ready g t c =
+    ready_exit c.from_residual.result _ c.from_residual.ensures.1
+    (ready_stop (option_copied c.args.name) c.args.taken.now c.args.self.now c.caught.new.self c.requires.sound c.requires.taken caught_reply _ _ c.in_err-reply.ensures.played)
+
+pub reply-returns-then-catches-clause-played : goal.reply-returns-then-catches-clause-played
+reply-returns-then-catches-clause-played g t c row k a s l p w =
+    let x = option_copied c.args.name in
+    let u = c.args.taken.now in
+    let r = c.in_ok-reply.reply in
+    comes_at x row k a _ s (Ok (outcome.Goes r)) c.caught.new.self u p
+    (caught_goes x row k u a c.args.self.now l (plain c.in-Eval.e) r (p.question ∙ ap (λ z. Some (plain_ask z)) c.in-Eval.is) (catches_behind a _ s c.args.catches p w c.if-catches.true) c.in_ok-reply.ensures.played)
+
+pub reply-returns-then-catches-clause-ready : goal.reply-returns-then-catches-clause-ready
+reply-returns-then-catches-clause-ready g t c n = ready_at (option_copied c.args.name) c.args.taken.now c.args.self.now c.caught.new.self c.requires.sound c.requires.taken c.in_ok-reply.ensures.played.0
+
+pub reply-value_of_built-requires : goal.reply-value_of_built-requires
+reply-value_of_built-requires g t c κs within = (search rules, (within, (c.requires.sound, subst (HonestAsk c.args.self.now) c.in-Eval.is c.requires.honest)))
+
+pub reply-returns-in_err-value-clause-played : goal.reply-returns-in_err-value-clause-played
+reply-returns-in_err-value-clause-played g t c row k a s l p w =
+    let x = option_copied c.args.name in
+    let u = c.args.taken.now in
+    let e = c.in-Eval.e in
+    comes_exit x row k c.value_of_built.new.self s u c.from_residual-in_err-value.result _ c.from_residual-in_err-value.ensures.1
+    (value_stops x row k u a c.args.self.now l (plain e) _ (p.question ∙ ap (λ z. Some (plain_ask z)) c.in-Eval.is) (catches_not a _ s c.args.catches p w c.if-catches.false) (c.in_err-value.ensures.played (plain e) refl))
+
+pub reply-returns-in_err-value-clause-ready : goal.reply-returns-in_err-value-clause-ready
+reply-returns-in_err-value-clause-ready g t c =
+    ready_exit c.from_residual-in_err-value.result _ c.from_residual-in_err-value.ensures.1
+    (ready_stop (option_copied c.args.name) c.args.taken.now c.args.self.now c.value_of_built.new.self c.requires.sound c.requires.taken value _ _ (c.in_err-value.ensures.played (plain c.in-Eval.e) refl))
+
+pub reply-returns-in-Eval-clause-played : goal.reply-returns-in-Eval-clause-played
+reply-returns-in-Eval-clause-played g t c row k a s l p w =
+    let x = option_copied c.args.name in
+    let u = c.args.taken.now in
+    let e = c.in-Eval.e in
+    let v = c.in_ok-value.value in
+    comes_at x row k a _ s (Ok (outcome.Goes (replies.Value v))) c.value_of_built.new.self u p
+    (value_goes x row k u a c.args.self.now l (plain e) v (p.question ∙ ap (λ z. Some (plain_ask z)) c.in-Eval.is) (catches_not a _ s c.args.catches p w c.if-catches.false) (c.in_ok-value.ensures.played (plain e) refl))
+
+pub reply-returns-in-Eval-clause-ready : goal.reply-returns-in-Eval-clause-ready
+reply-returns-in-Eval-clause-ready g t c n = ready_at (option_copied c.args.name) c.args.taken.now c.args.self.now c.value_of_built.new.self c.requires.sound c.requires.taken (c.in_ok-value.ensures.played (plain c.in-Eval.e) refl).0
+
+pub reply-matches-requires : goal.reply-matches-requires
+reply-matches-requires g t c κs within = let h = subst (HonestAsk c.args.self.now) c.in-Matches.is c.requires.honest in (search rules, (within, (c.requires.sound, (h.1, h.0))))
+
+pub reply-returns-in_err-matched-clause-played : goal.reply-returns-in_err-matched-clause-played
+reply-returns-in_err-matched-clause-played g t c row k a s l p w =
+    let x = option_copied c.args.name in
+    let u = c.args.taken.now in
+    comes_exit x row k c.matches.new.self s u c.from_residual-in_err-matched.result _ c.from_residual-in_err-matched.ensures.1
+    (match_stops x row k u a c.args.self.now l (plain c.in-Matches.e) (plain c.in-Matches.pattern) _ (p.question ∙ ap (λ z. Some (plain_ask z)) c.in-Matches.is) (c.in_err-matched.ensures.played (2 ^ 64) (omega arith)))
+
+pub reply-returns-in_err-matched-clause-ready : goal.reply-returns-in_err-matched-clause-ready
+reply-returns-in_err-matched-clause-ready g t c =
+    ready_exit c.from_residual-in_err-matched.result _ c.from_residual-in_err-matched.ensures.1
+    (ready_stop (option_copied c.args.name) c.args.taken.now c.args.self.now c.matches.new.self c.requires.sound c.requires.taken itself _ _ (c.in_err-matched.ensures.played (2 ^ 64) (omega arith)))
+
+pub reply-returns-in-Matches-clause-played : goal.reply-returns-in-Matches-clause-played
+reply-returns-in-Matches-clause-played g t c row k a s l p w =
+    let x = option_copied c.args.name in
+    let u = c.args.taken.now in
+    let b = c.in_ok-matched.matched in
+    comes_at x row k a _ s (Ok (outcome.Goes (replies.Matched b))) c.matches.new.self u p
+    (match_goes x row k u a c.args.self.now l (plain c.in-Matches.e) (plain c.in-Matches.pattern) b (p.question ∙ ap (λ z. Some (plain_ask z)) c.in-Matches.is) (c.in_ok-matched.ensures.played (2 ^ 64) (omega arith)).0)
+
+pub reply-returns-in-Matches-clause-ready : goal.reply-returns-in-Matches-clause-ready
+reply-returns-in-Matches-clause-ready g t c n = ready_at (option_copied c.args.name) c.args.taken.now c.args.self.now c.matches.new.self c.requires.sound c.requires.taken (c.in_ok-matched.ensures.played (2 ^ 64) (omega arith)).0
+
+pub reply-returns-in-Let-in_default-clause-played : goal.reply-returns-in-Let-in_default-clause-played
+reply-returns-in-Let-in_default-clause-played g t c row k a s l p w =
+    let x = option_copied c.args.name in
+    let u = c.args.taken.now in
+    let k1 = c.args.self.now in
+    let n = ap option_copied (none_is _ c.in_default-name.not-Some) in
+    comes_at x row k a _ s (Ok (outcome.Goes replies.Went)) k1 u p
+    (let_goes x row k u a k1 l u (plain c.in-Let.value) (p.question ∙ ap (λ z. Some (plain_ask z)) c.in-Let.is) (set_nothing x u (plain c.in-Let.value) k1 n))
+
+pub reply-returns-in-Let-in_default-clause-ready : goal.reply-returns-in-Let-in_default-clause-ready
+reply-returns-in-Let-in_default-clause-ready g t c n = ready_same (option_copied c.args.name) c.args.taken.now c.args.self.now c.requires.sound c.requires.taken
+
+pub reply-set_iterator-requires : goal.reply-set_iterator-requires
+reply-set_iterator-requires g t c =
+    record {
+      sound = c.requires.sound;
+      name = subst (λ (o : Option (Bor (List ℕ))). IfSome o (λ z. IsName z.now)) c.in-Some-name.is c.requires.name;
+      honest = subst (HonestAsk c.args.self.now) c.in-Let.is c.requires.honest;
+      taken = subst (λ z. AreTaken c.args.self.now z c.args.taken.now) (ap option_copied c.in-Some-name.is) c.requires.taken;
+    }
+
+pub reply-returns-in-Let-clause-played : goal.reply-returns-in-Let-clause-played
+reply-returns-in-Let-clause-played g t c row k a s l p w =
+    let x = option_copied c.args.name in
+    let u = c.args.taken.now in
+    let n = c.set_iterator.new.taken in
+    let k1 = c.args.self.now in
+    let k2 = c.set_iterator.new.self in
+    let v = plain c.in-Let.value in
+    let e = ap option_copied c.in-Some-name.is in
+    comes_at x row k a _ s (Ok (outcome.Goes replies.Went)) k2 n p
+    (let_goes x row k u a k1 l n v (p.question ∙ ap (λ z. Some (plain_ask z)) c.in-Let.is) (set_named x c.in-Some-name.name.now u n v k1 k2 e c.in_ok-set_iterator.ensures.played))
+
+pub reply-returns-in-Let-clause-ready : goal.reply-returns-in-Let-clause-ready
+reply-returns-in-Let-clause-ready g t c n =
+    let x = option_copied c.args.name in
+    let e = ap option_copied c.in-Some-name.is in
+    ready_set x c.in-Some-name.name.now c.set_iterator.new.taken c.args.self.now c.set_iterator.new.self e c.requires.sound c.in_ok-set_iterator.ensures.played c.in_ok-set_iterator.ensures.taken
+
+pub reply-returns-in_err-take_step-clause-played : goal.reply-returns-in_err-take_step-clause-played
+reply-returns-in_err-take_step-clause-played g t c row k a s l p w =
+    let x = option_copied c.args.name in
+    let u = c.args.taken.now in
+    comes_exit x row k c.take_step.new.self s u c.from_residual-in_err-take_step.result _ c.from_residual-in_err-take_step.ensures.1
+    (pass_stops x row k u a c.args.self.now l _ (p.question ∙ ap (λ z. Some (plain_ask z)) c.in-Pass.is) c.in_err-take_step.ensures.played)
+
+pub reply-returns-in_err-take_step-clause-ready : goal.reply-returns-in_err-take_step-clause-ready
+reply-returns-in_err-take_step-clause-ready g t c =
+    ready_exit c.from_residual-in_err-take_step.result _ c.from_residual-in_err-take_step.ensures.1
+    (ready_stop (option_copied c.args.name) c.args.taken.now c.args.self.now c.take_step.new.self c.requires.sound c.requires.taken itself _ _ c.in_err-take_step.ensures.played)
+
+pub reply-returns-in-Pass-clause-played : goal.reply-returns-in-Pass-clause-played
+reply-returns-in-Pass-clause-played g t c row k a s l p w =
+    let x = option_copied c.args.name in
+    let u = c.args.taken.now in
+    comes_at x row k a _ s (Ok (outcome.Goes replies.Went)) c.take_step.new.self u p
+    (pass_goes x row k u a c.args.self.now l (p.question ∙ ap (λ z. Some (plain_ask z)) c.in-Pass.is) c.in_ok-take_step.ensures.played.0)
+
+pub reply-returns-in-Pass-clause-ready : goal.reply-returns-in-Pass-clause-ready
+reply-returns-in-Pass-clause-ready g t c n = ready_at (option_copied c.args.name) c.args.taken.now c.args.self.now c.take_step.new.self c.requires.sound c.requires.taken c.in_ok-take_step.ensures.played.0
+
+pub reply-returns-in-Overflow-clause-played : goal.reply-returns-in-Overflow-clause-played
+reply-returns-in-Overflow-clause-played g t c row k a s l p w =
+    let h = c.in_ok-form.ensures in
+    overflow_ends (option_copied c.args.name) row k c.args.taken.now a c.args.self.now l c.in_ok-form.form (p.question ∙ ap (λ z. Some (plain_ask z)) c.in-Overflow.is) (subst (λ z. fits z ≡ true) (sym h.form) refl) h.played h.honest
+
+pub reply-returns-in-Overflow-clause-ready : goal.reply-returns-in-Overflow-clause-ready
+reply-returns-in-Overflow-clause-ready g t c n = ready_at (option_copied c.args.name) c.args.taken.now c.args.self.now c.overflow.new.self c.requires.sound c.requires.taken c.in_ok-form.ensures.played
+
+pub reply-returns-in-Done-clause-played : goal.reply-returns-in-Done-clause-played
+reply-returns-in-Done-clause-played g t c row k a s l p w =
+    result_ends (option_copied c.args.name) row k c.args.taken.now a c.args.self.now l c.in-Done.e (p.question ∙ ap (λ z. Some (plain_ask z)) c.in-Done.is) p.fits (subst (HonestAsk c.args.self.now) c.in-Done.is c.requires.honest)
+
+pub reply-returns-in-Unchanged-clause-played : goal.reply-returns-in-Unchanged-clause-played
+reply-returns-in-Unchanged-clause-played g t c row k a s l p w = unchanged_ends (option_copied c.args.name) row k c.args.taken.now a c.args.self.now l (p.question ∙ ap (λ z. Some (plain_ask z)) c.in-Unchanged.is)
+
+-- ---- the row of a name
+
+pub row-control_row-requires : goal.row-control_row-requires
+row-control_row-requires g t c κs within =
+    let es = c.args.args.now in
+    let d = c.in-Some-started.cursor in
+    let q = c.in-Some-started.is in
+    let h = started (trees es) d (control.row_of c.args.name.now) (sym (ap (option_map stand) q) ∙ c.in_ok-started.ensures.row) in (
+      search rules,
+      (
+        within,
+        (
+          c.requires.sound,
+          (
+            c.requires.args,
+            (
+              subst (λ (o : Option Cursor). IfSome o (λ z. IsAwaited (stand z) start)) q c.in_ok-started.ensures.awaits,
+              (λ ms w. subst (HoldsFrom ms) q (c.in_ok-started.ensures.passed ms w), row_bounded c.args.name.now h.0 es (stand d) h.1 h.2 (omega arith)),
+            ),
+          ),
+        ),
+      ),
+    )
+
+pub row-returns-in-Some-started-clause-played : goal.row-returns-in-Some-started-clause-played
+row-returns-in-Some-started-clause-played g t c =
+    let es = trees c.args.args.now in
+    let o = sym c.named-3.ensures ∙ ap (option_map kinds.row_by) c.in_default-named-2.is in
+    let h = started es c.in-Some-started.cursor (control.row_of c.args.name.now) (sym (ap (option_map stand) c.in-Some-started.is) ∙ c.in_ok-started.ensures.row) in
+    subst (λ p. Played found_tree (sized_row p) c.args.self.now c.control_row.result c.control_row.new.self) (sym (row_control c.args.name.now es h.0 o h.1)) (c.control_row.ensures.played h.0 h.2)

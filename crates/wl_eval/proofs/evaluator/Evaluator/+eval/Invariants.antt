@@ -24,6 +24,12 @@ use Rattle.std.proofs.Common.{Some, option_map, take}
 use Rattle.wl_eval.specs.Replacing.{AllHonestMaybe, each_of, replacing_each, sifted}
 use Rattle.wl_eval.proofs.ReplaceRowParts.{Passing}
 use Rattle.wl_eval.specs.Honest.{HonestRule}
+use Rattle.std.specs.Prelude.{None, option_copied}
+use Rattle.wl_control.specs.Asks.{Asks}
+use Rattle.wl_control.specs.Cursors.{stand}
+use Rattle.wl_control.specs.Stand.{IsAwaited, after, starts}
+use Rattle.wl_eval.specs.Control.{played}
+use Rattle.wl_eval.specs.Replies.{Holds, Proceeds, Ready, set_aside, told_by}
 use Rattle.wl_eval.proofs.evaluator.Evaluator.+eval.Given as goal
 
 -- ---- what takes no step of its own stands below what it may be called from; a turn has taken a step
@@ -412,3 +418,30 @@ invariant-replace_repeated-loop-subject g l = record {
 
 abbrev pub decreases-replace_repeated-loop-subject : goal.decreases-replace_repeated-loop-subject
 decreases-replace_repeated-loop-subject g l = l.self.steps
+-- ---- rows of loops and branches
+
+abbrev pub decreases-control_row : goal.decreases-control_row
+decreases-control_row g l = 8000 * l.self.now.steps + 7790
+
+abbrev pub decreases-drive : goal.decreases-drive
+decreases-drive g l = 8000 * l.self.now.steps + 7780
+
+abbrev pub decreases-answer : goal.decreases-answer
+decreases-answer g l = 8000 * l.self.now.steps + 7770
+
+abbrev pub decreases-reply : goal.decreases-reply
+decreases-reply g l = 8000 * l.self.now.steps + 7760
+
+abbrev pub decreases-caught : goal.decreases-caught
+decreases-caught g l = 8000 * l.self.now.steps + 14
+
+abbrev pub invariant-answer-questions : goal.invariant-answer-questions
+invariant-answer-questions g l = record {
+  leads : (row : Asks) → stand l.fn.first ≡ starts row
+      → Leads (played (option_copied l.name) None row) l.fn.self (played (option_copied l.name) (set_aside (option_copied l.name) l.taken) (after (stand l.cursor) (told_by l.reply))) l.self;
+  awaited : IsAwaited (stand l.cursor) (told_by l.reply);
+  ready : Ready (option_copied l.name) l.fn.self l.self l.taken;
+  holds : Holds l.self l.cursor l.reply;
+  proceeds : Proceeds l._answered l.fn.self.steps l.self.steps (after (stand l.cursor) (told_by l.reply));
+  falls : l.self.steps ≤ l.fn.self.steps;
+}
