@@ -41,3 +41,7 @@ mod Symbols
 mod EntryRowParts
 mod HistoryRowParts
 mod DefiningParts
+mod LocalParts
+mod ScopingParts
+mod ScopeRowParts
+mod GuardParts

@@ -17,7 +17,6 @@ use std::slice;
 use wl_control::Cursor;
 use wl_expr::{Applied, Expr, ExprFault, Look, Notice};
 use wl_ports::{Ledger, Memory, Work};
-use wl_rules::Attributes;
 
 /// Whether a name begins as each of a built-in function does.
 fn begins_capital(name: &str) -> bool
@@ -102,11 +101,13 @@ impl Evaluator {
         ensures played { Played found_tree (sized_row (row_by kind (trees args.now))) self.old result self.new }
         ensures falls { self.new.steps ≤ self.old.steps }
     {
-        // These rows come here.
-        if self.steps == 0 {
-            let _values = self.elements(Attributes::none(), args, work);
+        // The other rows come here.
+        match kind {
+            Kind::Module => self.module_row(args, work),
+            Kind::With => self.with_row(args, work),
+            Kind::Block => self.block_row(args, work),
+            _ => Err(Stop::Memory),
         }
-        Err(Stop::Memory)
     }
 
     /// What a row that looks at its elements alone gives, with its message.

@@ -46,6 +46,14 @@ use Rattle.wl_shape.specs.Fill.{fill_binding}
 use Rattle.wl_eval.specs.Searching.{HonestView, found_by, next_binding, next_found, passes_within, refuses_within, tests_within, true_of_built}
 use Rattle.wl_eval.proofs.Bindings.{after_binding, after_tests, all_tests, if_so, or_more, passes_is, test_within, tests_is, tests_over, walk_is}
 use Rattle.wl_eval.proofs.Matches.{all_view_honest, asks_applies, asks_holds, asks_refuses, each_at, each_leads, each_over, exit, fill_on, filled_leads, filled_makes, filling_is, filling_leads, found_none, found_some, guard_on, guarded_leads, both_not, held, kept_honest, leads_in, leads_out, made_honest, match_found, match_over, matches_played, next_so, no_test, not_filled, not_held, not_so, one_makes, refuses_one, refuses_other, rule_played, sized_leads, test_found, tests_at, tests_begin, tests_end, trial_at, trial_leads, trial_over, unguarded, view_honest, walk_found, walk_over}
+use Rattle.wl_eval.specs.LocalNames as local_names
+use Rattle.wl_eval.specs.LocalNames.{local_in, locals_in}
+use Rattle.wl_eval.specs.ScopeRows as scope_rows
+use Rattle.wl_eval.specs.Scoping as scoping
+use Rattle.wl_eval.proofs.LocalParts.{locals_at, locals_push, no_locals}
+use Rattle.wl_eval.proofs.ScopingParts.{local_at, local_later, locals_later, locals_pushed}
+use Rattle.wl_eval.proofs.ScopeRowParts.{block_exit, block_on, block_played, block_row-on, given_plays, given_stops, initial_by, initial_none, initial_some, initials_is, initials_over, module_on, module_plays, module_row-on, row_exit, with_on, with_plays, with_row-on}
+use Rattle.wl_eval.proofs.RowParts.{row_stays, row_at, row_made}
 use Rattle.wl_eval.proofs.evaluator.Evaluator.+eval.Goals as goal
 
 -- ---- which rule applies
@@ -1086,3 +1094,14 @@ trial-loop-i-preserved g t c =
 
 pub trial-returns-clause-played : goal.trial-returns-clause-played
 trial-returns-clause-played g t c = (c.loop-i.invariant.leads _ _ _ (trial_over c.args.rules.now c.loop-i.i (plain c.args.e.now) c.loop-i.self (omega arith)), tt)
+
+-- ---- initial values
+
+pub initial-returns-in_default-clause-played : goal.initial-returns-in_default-clause-played
+initial-returns-in_default-clause-played g t c = ?
+
+pub initial-returns-in_err-value-clause-played : goal.initial-returns-in_err-value-clause-played
+initial-returns-in_err-value-clause-played g t c = ?
+
+pub initial-returns-clause-played : goal.initial-returns-clause-played
+initial-returns-clause-played g t c = ?

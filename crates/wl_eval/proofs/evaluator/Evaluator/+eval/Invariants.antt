@@ -15,6 +15,8 @@ use Rattle.wl_eval.specs.declared.ends.End.{End}
 use Rattle.wl_eval.specs.declared.ends.Stop.{Stop}
 use Rattle.wl_eval.specs.declared.evaluator.Evaluator.{Evaluator}
 use Rattle.wl_eval.proofs.Bindings.{all_tests, test_within}
+use Rattle.wl_eval.specs.LocalNames.{AreLocals, AreShallow, locals_in}
+use Rattle.wl_eval.specs.Scoping as scoping
 use Rattle.wl_eval.proofs.evaluator.Evaluator.+eval.Given as goal
 
 -- ---- what takes no step of its own stands below what it may be called from; a turn has taken a step
@@ -191,5 +193,32 @@ invariant-each_applies-loop-i g l = record {
   sound : Sound l.self;
   function : Honest l.self l.f;
   elements : AllHonest l.self l.elements;
+  falls : l.self.steps ≤ l.fn.self.steps;
+}
+
+-- ---- Module, With and Block
+
+abbrev pub decreases-initial : goal.decreases-initial
+decreases-initial g l = 8000 * l.self.now.steps + 13
+
+abbrev pub decreases-initials : goal.decreases-initials
+decreases-initials g l = 8000 * l.self.now.steps + 14
+
+abbrev pub decreases-module_row : goal.decreases-module_row
+decreases-module_row g l = 8000 * l.self.now.steps + 7600
+
+abbrev pub decreases-with_row : goal.decreases-with_row
+decreases-with_row g l = 8000 * l.self.now.steps + 7600
+
+abbrev pub decreases-block_row : goal.decreases-block_row
+decreases-block_row g l = 8000 * l.self.now.steps + 7600
+
+abbrev pub invariant-initials-loop-i : goal.invariant-initials-loop-i
+invariant-initials-loop-i g l = record {
+  leads : Leads (scoping.initials [] (locals_in l.names)) l.fn.self (scoping.initials (locals_in l.values.items) (locals_in (drop l.i l.names))) l.self;
+  sound : Sound l.self;
+  names : AreLocals l.self.store l.names;
+  values : AreLocals l.self.store l.values.items;
+  shallow : l.self.steps ≡ l.fn.self.steps → AreShallow l.values.items;
   falls : l.self.steps ≤ l.fn.self.steps;
 }
