@@ -113,6 +113,14 @@ shallow_values (l ∷ ls) h = at l.value (All-head IsShallow l ls h)
 pub replaced_shallow : (b : Tree) (ls : List Local) → AreShallow ls → depth (replace b (names_of (locals_in ls)) (values_of (locals_in ls))) ≤ depth b
 replaced_shallow b ls h = fill-depth b (given (names_of (locals_in ls)) (values_of (locals_in ls))) (given_leaf (names_of (locals_in ls)) (values_of (locals_in ls)) (shallow_values ls h))
 
+listed : (ts : Trees) → from_list (to_list ts) ≡ ts
+listed none = refl
+listed (more t ts) = ap (λ z. more t z) (listed ts)
+
+list_listed : (es : List Tree) → to_list (from_list es) ≡ es
+list_listed [] = refl
+list_listed (e ∷ es) = ap (λ z. e ∷ z) (list_listed es)
+
 -- ---- depths
 
 pub parts_depth : (k : Needs) (es : List Tree) (ls : List scopes.Local) (b : Tree) → scope_parts k es ≡ Some (ls, b) → depth b ≤ depths (from_list es)
@@ -125,6 +133,12 @@ parts_depth k (v ∷ u ∷ []) ls b h = at (locals k v) h
     at (Some ms) h = let e : u ≡ b = ap (λ o. unwrap_or (option_map (λ (p : List scopes.Local × Tree). p.1) o) u) h in subst (λ z. depth z ≤ max (depth v) (max (depth u) 0)) e (omega arith)
 parts_depth k (v ∷ u ∷ t ∷ es) ls b h = absurd (let q : None ≡ Some (ls, b) = h in cc)
 
+pub elements_depth : (g : Tree) → depths (from_list (elements g)) < depth g
+elements_depth (num n) = omega arith
+elements_depth (text s) = omega arith
+elements_depth (symbol x) = omega arith
+elements_depth (node h ts) = let e = ap depths (listed ts) in omega (arith, e)
+
 -- ---- guards
 
 pub guard_condition : (n : ℕ) (g : Tree) → 0 < n → is_condition g ≡ true → guard_within n g ≡ condition_result (elements g)
@@ -135,14 +149,6 @@ pub guard_none : (n : ℕ) (g : Tree) → 0 < n → is_condition g ≡ false →
 unfolding guard_within
 guard_none zero g l c h = absurd (omega (arith, l))
 guard_none (suc n) g l c h = rw (guard_within, c, h)
-
-listed : (ts : Trees) → from_list (to_list ts) ≡ ts
-listed none = refl
-listed (more t ts) = ap (λ z. more t z) (listed ts)
-
-list_listed : (es : List Tree) → to_list (from_list es) ≡ es
-list_listed [] = refl
-list_listed (e ∷ es) = ap (λ z. e ∷ z) (list_listed es)
 
 guard_by_scope : (n : ℕ) (g : Tree) → 0 < n → is_condition g ≡ false → is_guarded g ≡ true → guard_within n g ≡ guard_by (λ u. guard_within (n - 1) u) (scope g) g
 guard_by_scope zero g l c h = absurd (omega (arith, l))

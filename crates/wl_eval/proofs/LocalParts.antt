@@ -1,9 +1,9 @@
 -- How local names are read, and bodies with their names in other places.
-use Rattle.std.proofs.Common.{◌≡◌, ℕ, zero, suc, ◌+◌, ◌<◌, ◌≤◌, Bool, true, false, ◌&&◌, ◌||◌, List, [], ◌∷◌, ◌++◌, length, map, drop, take, get_or, Option, Some, None, option_map, refl, sym, ap, ◌∙◌, arith, bytes_eq}
+use Rattle.std.proofs.Common.{◌≡◌, ℕ, zero, suc, ◌+◌, ◌<◌, ◌≤◌, Bool, true, false, ◌&&◌, ◌||◌, List, [], ◌∷◌, ◌++◌, length, map, drop, take, get_or, Option, Some, None, option_map, refl, sym, ap, ◌∙◌, arith, bytes_eq, true≢false}
 use Rattle.std.proofs.lemmas.Slice.Eq.{bytes_eq-Decides}
 use Rattle.std.proofs.lemmas.List.{map-append}
-use Rattle.std.proofs.lemmas.List.Elements.{All-head, All-tail}
-use Rattle.std.specs.List.{filter_map, list_all, cons_option}
+use Rattle.std.proofs.lemmas.List.Elements.{All-nil, All-cons, All-head, All-tail, All-weaker}
+use Rattle.std.specs.List.{All, filter_map, list_all, cons_option}
 use Rattle.std.specs.Prelude.{codes}
 use Rattle.wl_expr.specs.Same.{is_name_among}
 use Rattle.wl_expr.specs.Stamped.{Stamped, plain, plains, from_list}
@@ -14,7 +14,9 @@ use Rattle.wl_shape.specs.Fill.{filled_symbol, fill, numbered, given, rename, re
 use Rattle.wl_shape.specs.Names.{names_in}
 use Rattle.wl_shape.specs.Scopes as scopes
 use Rattle.wl_shape.specs.Scopes.{Needs, local_of, locals_of, with_local}
-use Rattle.wl_eval.specs.LocalNames.{IsSymbol, AreSymbols, local_in, locals_in, name_in}
+use Rattle.wl_rules.specs.Stored.{Stored}
+use Rattle.wl_eval.specs.Honest.{HonestIn, HonestOption}
+use Rattle.wl_eval.specs.LocalNames.{IsLocal, AreLocals, IsSymbol, AreSymbols, local_in, locals_in, name_in}
 use Rattle.wl_eval.specs.Played.{trees}
 use Rattle.wl_eval.specs.Scoping.{names_of, values_of}
 use Rattle.wl_eval.specs.declared.locals.Local.{Local}
@@ -152,3 +154,29 @@ numbered_is (symbol x) n e = ap (λ (b : Bool). filled_symbol x (elim b [ true �
     same_name : (y : Name) → is_name_among y (y ∷ []) ≡ true
     same_name y = ap (λ (b : Bool). b || is_name_among y []) ((bytes_eq-Decides y y).1 refl)
 numbered_is (node f us) n e = absurd (let q : node f us ≡ symbol [] = e in cc)
+
+-- ---- what stays honest
+
+pub named_symbol : (t : Tree) → is_name t ≡ true → t ≡ symbol (name_in t)
+named_symbol (num n) h = absurd (true≢false (sym h))
+named_symbol (text s) h = absurd (true≢false (sym h))
+named_symbol (symbol x) h = refl
+named_symbol (node f us) h = absurd (true≢false (sym h))
+
+pub are_symbols : (a : Stored) (ls : List Local) → AreLocals a ls → AreSymbols ls
+are_symbols a ls h = All-weaker (IsLocal a) (λ (l : Local). IsSymbol l.name) (λ l w. w.symbol) ls h
+
+pub honest_names : (a : Stored) (ls : List Local) → AreLocals a ls → All (HonestIn a) (names_at ls)
+honest_names a [] h = All-nil (HonestIn a)
+honest_names a (l ∷ ls) h = All-cons (HonestIn a) l.name (names_at ls) (All-head (IsLocal a) l ls h).name (honest_names a ls (All-tail (IsLocal a) l ls h))
+
+pub honest_values : (a : Stored) (ls : List Local) → AreLocals a ls → All (HonestIn a) (values_at ls)
+honest_values a [] h = All-nil (HonestIn a)
+honest_values a (l ∷ ls) h = at l.value (All-head (IsLocal a) l ls h).value
+  where
+    rest : All (HonestIn a) (values_at ls)
+    rest = honest_values a ls (All-tail (IsLocal a) l ls h)
+
+    at : (o : Option Stamped) → HonestOption a o → All (HonestIn a) (cons_option o (values_at ls))
+    at None w = rest
+    at (Some v) w = All-cons (HonestIn a) v (values_at ls) w rest

@@ -1,5 +1,6 @@
 -- How the rows of Module, With and Block play.
 use Rattle.std.proofs.Common.{◌≡◌, ℕ, ◌+◌, ◌<◌, ◌≤◌, Bool, true, false, List, [], ◌∷◌, ◌++◌, length, drop, get_or, reverse, Option, Some, None, option_map, Result, Ok, Err, refl, sym, ap, ◌∙◌, subst}
+use Rattle.std.proofs.lemmas.List.Elements.{All-push}
 use Rattle.std.proofs.lemmas.Result.{err_from_is_err_and}
 use Rattle.std.specs.Result.{IsErrAnd}
 use Rattle.wl_expr.specs.Stamped.{Stamped, plain}
@@ -9,7 +10,8 @@ use Rattle.wl_shape.specs.Scopes as scopes
 use Rattle.wl_shape.specs.Scopes.{names, values, locals}
 use Rattle.wl_eval.specs.State.{End}
 use Rattle.wl_eval.specs.Prog.{Prog, done, ◌>>=◌, draw, number, asking, ended, now, sized, value_of, unchanged}
-use Rattle.wl_eval.specs.LocalNames.{local, local_in, locals_in, local_list, with_body_of, scope_parts, aside}
+use Rattle.wl_eval.specs.LocalNames.{AreShallow, IsShallow, IsSymbol, local, local_in, with_body_of, scope_parts, aside}
+use Rattle.wl_eval.specs.Honest.{HonestIn}
 use Rattle.wl_eval.specs.Operands.{sized_row}
 use Rattle.wl_eval.specs.Played.{Plays, Played, Seen, Leads, tree as value, honest_tree, found_tree}
 use Rattle.wl_eval.specs.ScopeRows as rows
@@ -37,6 +39,17 @@ initial_by l v = done (record l { value = Some v })
 
 pub initial_some : (l : Local) (v : Stamped) → l.value ≡ Some v → scoping.initial (local_in l) ≡ (value_of (plain v) >>= initial_by (local_in l))
 initial_some l v e = ap (λ (o : Option Stamped). elim (option_map plain o) [ None ↦ done (local_in l) | Some t ↦ value_of t >>= λ u. done (record (local_in l) { value = Some u }) ]) e
+
+-- a local name whose value was evaluated
+pub initial_gives : (l : Local) (v n : Stamped) (k k1 : Evaluator) (t : Tree) → scoping.initial (local_in l) ≡ (value_of t >>= initial_by (local_in l)) → n ≡ l.name → Plays (value_of t) k (Ok (plain v)) k1 false → HonestIn k1.store l.name → HonestIn k1.store v → IsSymbol l.name
+    → Played local (scoping.initial (local_in l)) k (Ok (record { name = n; value = Some v })) k1
+initial_gives l v n k k1 t e q h x y s =
+    let made : Local = record { name = l.name; value = Some v } in
+    subst (λ (z : Stamped). Played local (scoping.initial (local_in l)) k (Ok (record { name = z; value = Some v })) k1) (sym q)
+    (subst (λ p. Plays p k (Ok (local_in made)) k1 false) (sym e) (plays_bind (value_of t) (initial_by (local_in l)) h plays_done), record { symbol = s; name = x; value = y })
+
+pub shallow_push : (ls : List Local) (l : Local) (ms : List Local) → ms ≡ ls ++ l ∷ [] → AreShallow ls → IsShallow l → AreShallow ms
+shallow_push ls l ms e h w = subst AreShallow (sym e) (All-push IsShallow ls l h w)
 
 pub initials_is : (vs : List scopes.Local) (l : scopes.Local) (ms ls : List scopes.Local) → ms ≡ l ∷ ls → scoping.initials vs ms ≡ (scoping.initial l >>= λ v. scoping.initials (vs ++ v ∷ []) ls)
 unfolding scoping.initials

@@ -20,7 +20,7 @@ use wl_expr::Expr;
 use wl_ports::{Ledger, Memory, Work};
 
 /// The local names and the body of the two elements of a scope.
-fn scope_parts(
+pub(crate) fn scope_parts(
     alloc: Global,
     args: &[Expr],
     need_values: bool,

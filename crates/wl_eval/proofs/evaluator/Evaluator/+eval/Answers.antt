@@ -54,6 +54,7 @@ use Rattle.wl_eval.proofs.LocalParts.{locals_at, locals_push, no_locals}
 use Rattle.wl_eval.proofs.ScopingParts.{local_at, local_later, locals_later, locals_pushed}
 use Rattle.wl_eval.proofs.ScopeRowParts.{block_exit, block_on, block_played, block_row-on, given_plays, given_stops, initial_by, initial_none, initial_some, initials_is, initials_over, module_on, module_plays, module_row-on, row_exit, with_on, with_plays, with_row-on}
 use Rattle.wl_eval.proofs.RowParts.{row_stays, row_at, row_made}
+use Rattle.wl_eval.proofs.ScopeRowParts.{initial_gives, shallow_push}
 use Rattle.wl_eval.proofs.evaluator.Evaluator.+eval.Goals as goal
 
 -- ---- which rule applies
@@ -1098,10 +1099,82 @@ trial-returns-clause-played g t c = (c.loop-i.invariant.leads _ _ _ (trial_over 
 -- ---- initial values
 
 pub initial-returns-in_default-clause-played : goal.initial-returns-in_default-clause-played
-initial-returns-in_default-clause-played g t c = ?
+initial-returns-in_default-clause-played g t c =
+    let x = c.args.name.now in
+    let k = c.args.self.now in
+    let e = c.in_ok-copy.ensures in
+    (subst (λ z. Plays (scoping.initial (local_in x)) k (Ok (local_in z)) k false) (sym e) (initial_none x k c.in_default.is), subst (local_names.IsLocal k.store) (sym e) c.requires.local)
 
 pub initial-returns-in_err-value-clause-played : goal.initial-returns-in_err-value-clause-played
-initial-returns-in_err-value-clause-played g t c = ?
+initial-returns-in_err-value-clause-played g t c =
+    let x = c.args.name.now in
+    subst (λ z. Played local_names.local z c.args.self.now c.from_residual.result c.value_of.new.self) (sym (initial_some x c.in-Some.value c.in-Some.is)) (exit value local_names.local _ _ _ _ _ _ c.from_residual.ensures.1 c.in_err-value.ensures.played)
 
 pub initial-returns-clause-played : goal.initial-returns-clause-played
-initial-returns-clause-played g t c = ?
+initial-returns-clause-played g t c =
+    let x = c.args.name.now in
+    let k = c.args.self.now in
+    let k1 = c.value_of.new.self in
+    let v = c.in_ok-value.value in
+    let h = c.in_ok-value.ensures.played in
+    let e = c.in_ok-copy.ensures in
+    initial_gives x v c.in_ok-copy.field-0 k k1 (initial_some x c.in-Some.value c.in-Some.is) e h.0 (later h.0 x.name c.requires.local.name) h.1.0 c.requires.local.symbol
+
+pub initials-initial-requires : goal.initials-initial-requires
+initials-initial-requires g t c κs within =
+    let l = c.loop-i in
+    (search rules, (within, (l.invariant.sound, local_at _ c.args.names.now l.i c.index-names-i.result c.loop-i-test.true c.index-names-i.is l.invariant.names)))
+
+pub initials-returns-in_err-local-clause-played : goal.initials-returns-in_err-local-clause-played
+initials-returns-in_err-local-clause-played g t c =
+    let l = c.loop-i in
+    let ns = c.args.names.now in
+    let x = c.index-names-i.result in
+    leads_out local_names.local local_names.local_list _ _ _ _ _ _ _ _ _ l.invariant.leads (initials_is (locals_in l.values.items) (local_in x) (locals_in (drop l.i ns)) (locals_in (drop (l.i + 1) ns)) (locals_at ns l.i x c.loop-i-test.true c.index-names-i.is))
+    c.from_residual.ensures.1 c.in_err-local.ensures.played
+
+pub initials-loop-i-preserved : goal.initials-loop-i-preserved
+initials-loop-i-preserved g t c =
+    let l = c.loop-i in
+    let ns = c.args.names.now in
+    let x = c.index-names-i.result in
+    let y = c.in_ok-local.local in
+    let k1 = c.initial.new.self in
+    let h = c.in_ok-local.ensures.played in
+    let push = c.in_ok-push.ensures.items in
+    record {
+      leads = subst (λ zs. Leads (scoping.initials [] (locals_in ns)) c.args.self.now (scoping.initials zs (locals_in (drop (l.i + 1) ns))) k1) (sym (locals_push l.values.items y _ push))
+          (leads_in _ _ _ _ _ _ _ (local_in y) l.invariant.leads (initials_is (locals_in l.values.items) (local_in x) (locals_in (drop l.i ns)) (locals_in (drop (l.i + 1) ns)) (locals_at ns l.i x c.loop-i-test.true c.index-names-i.is)) h.0);
+      sound = h.0.sound l.invariant.sound;
+      names = locals_later h.0 ns l.invariant.names;
+      values = locals_pushed _ l.values.items y _ push (locals_later h.0 l.values.items l.invariant.values) h.1;
+      shallow = λ e. shallow_push l.values.items y _ push (l.invariant.shallow (omega (arith, e, c.in_ok-local.ensures.falls, l.invariant.falls))) (c.in_ok-local.ensures.shallow (omega (arith, e, c.in_ok-local.ensures.falls, l.invariant.falls)));
+      falls = omega (arith, c.in_ok-local.ensures.falls, l.invariant.falls);
+    }
+
+pub initials-returns-clause-played : goal.initials-returns-clause-played
+initials-returns-clause-played g t c =
+    let l = c.loop-i in
+    (l.invariant.leads _ _ _ (initials_over (locals_in l.values.items) (locals_in (drop l.i c.args.names.now)) l.self (no_locals c.args.names.now l.i (omega arith))), l.invariant.values)
+
+-- ---- Module
+
+pub module_row-returns-in_default-clause-played : goal.module_row-returns-in_default-clause-played
+module_row-returns-in_default-clause-played g t c = row_stays _ _ (module_row-on (trees c.args.args.now) ∙ ap module_on (sym c.in_default.ensures.read))
+
+pub module_row-initials-requires : goal.module_row-initials-requires
+module_row-initials-requires g t c κs within = (search rules, (within, (c.requires.sound, subst (local_names.AreLocals c.args.self.now.store) (sym c.as_slice.ensures.value) (c.in-Some.ensures.honest c.args.self.now.store c.requires.args).0)))
+
+pub module_row-returns-in_err-locals-clause-played : goal.module_row-returns-in_err-locals-clause-played
+module_row-returns-in_err-locals-clause-played g t c =
+    row_at _ _ c.args.self.now c.from_residual.result c.initials.new.self (module_row-on (trees c.args.args.now) ∙ ap module_on (sym c.in-Some.ensures.read))
+    (row_exit local_names.local_list _ _ _ _ _ _ c.from_residual.ensures.1 c.in_err-locals.ensures.played)
+
+pub module_row-returns-clause-played : goal.module_row-returns-clause-played
+module_row-returns-clause-played g t c =
+    let ls = locals_in c.in-Some.names.items in
+    let b = plain c.in-Some.body.now in
+    let vs = locals_in c.in_ok-locals.locals.items in
+    let n = c.draw_number-number.result in
+    row_at _ _ c.args.self.now c.given.result c.given.new.self (module_row-on (trees c.args.args.now) ∙ ap module_on (sym c.in-Some.ensures.read))
+    (row_made _ _ _ c.set_locals.new.self _ _ (given_plays _ _ _ c.set_locals.new.self (module_plays ls vs b _ _ c.in_ok-locals.ensures.played.0 n _ _ c.draw_number-number.ensures.played c.in_ok-set_locals.ensures.played)) (c.given.ensures.played _ c.renamed-made.ensures.made))

@@ -15,6 +15,7 @@ use Rattle.wl_eval.specs.declared.ends.End.{End}
 use Rattle.wl_eval.specs.declared.ends.Stop.{Stop}
 use Rattle.wl_eval.specs.declared.evaluator.Evaluator.{Evaluator}
 use Rattle.wl_eval.proofs.Bindings.{all_tests, test_within}
+use Rattle.wl_expr.specs.Tree.{depth}
 use Rattle.wl_eval.specs.LocalNames.{AreLocals, AreShallow, locals_in}
 use Rattle.wl_eval.specs.Scoping as scoping
 use Rattle.wl_eval.proofs.evaluator.Evaluator.+eval.Given as goal
@@ -222,3 +223,23 @@ invariant-initials-loop-i g l = record {
   shallow : l.self.steps ≡ l.fn.self.steps → AreShallow l.values.items;
   falls : l.self.steps ≤ l.fn.self.steps;
 }
+
+-- ---- guards, which fall by steps or by depth
+
+abbrev pub decreases-guard : goal.decreases-guard
+decreases-guard g l = 8000 * l.self.now.steps + 3002 + 3 * depth (plain l.e.now)
+
+abbrev pub decreases-module_guard : goal.decreases-module_guard
+decreases-module_guard g l = 8000 * l.self.now.steps + 3001 + 3 * depth (plain l.e.now)
+
+abbrev pub decreases-with_guard : goal.decreases-with_guard
+decreases-with_guard g l = 8000 * l.self.now.steps + 3001 + 3 * depth (plain l.e.now)
+
+abbrev pub decreases-block_guard : goal.decreases-block_guard
+decreases-block_guard g l = 8000 * l.self.now.steps + 3001 + 3 * depth (plain l.e.now)
+
+abbrev pub decreases-guarded_value : goal.decreases-guarded_value
+decreases-guarded_value g l = 8000 * l.self.now.steps + 3003 + 3 * depth (plain l.e.now)
+
+abbrev pub decreases-condition_result : goal.decreases-condition_result
+decreases-condition_result g l = 8000 * l.self.now.steps + 14
