@@ -2,7 +2,8 @@
 use Rattle.std.proofs.Common.{◌≡◌, ℕ, zero, suc, ◌+◌, ◌/◌, ◌%◌, ◌<◌, ◌≤◌, ◌&&◌, not, nat_lt, Bool, true, false, ◌==◌, List, [], ◌∷◌, ◌++◌, length, map, drop, get_or, reverse, Option, Some, None, is_some, option_map, unwrap_or, Result, Ok, refl, sym, ap, ap₂, ◌∙◌, subst, arith, bytes_eq}
 use Rattle.std.proofs.lemmas.Bool.Decides.{nat_tests}
 use Rattle.std.proofs.lemmas.List.{map-append, reverse-append}
-use Rattle.std.proofs.lemmas.List.Elements.{All-push, All-weaker}
+use Rattle.std.proofs.lemmas.List.Elements.{All-nil, All-cons, All-head, All-tail, All-push, All-weaker}
+use Rattle.std.specs.List.{All}
 use Rattle.std.specs.Cmp.Lexicographic.{same_text}
 use Rattle.std.specs.Fmt.{digits, digits_onto, digit_glyph}
 use Rattle.std.specs.Prelude.{codes, decimal, if◌then◌else◌}
@@ -248,3 +249,19 @@ given_protects l k k1 h = at l.value h
     at : (o : Option Stamped) → Plays (elim (option_map plain o) [ None ↦ done tt | Some v ↦ scoping.set_own (name_in (plain l.name)) v ]) k (Ok tt) k1 false → Protects k k1
     at None h = done_protects k k1 h
     at (Some v) h = put_protects (name_in (plain l.name)) _ k k1 h
+
+-- ---- what was held last, and before
+
+all_front : {X : Type 0} (P : X → Type 0) (xs : List X) (x : X) → All P (xs ++ x ∷ []) → All P xs
+all_front P [] x h = All-nil P
+all_front P (y ∷ ys) x h = All-cons P y ys (All-head P y (ys ++ x ∷ []) h) (all_front P ys x (All-tail P y (ys ++ x ∷ []) h))
+
+all_last : {X : Type 0} (P : X → Type 0) (xs : List X) (x : X) → All P (xs ++ x ∷ []) → P x
+all_last P [] x h = All-head P x [] h
+all_last P (y ∷ ys) x h = all_last P ys x (All-tail P y (ys ++ x ∷ []) h)
+
+pub held_init : (k : Evaluator) (hs : List Held) (h : Held) (gs : List Held) → gs ≡ hs ++ h ∷ [] → AreHeld k gs → AreHeld k hs
+held_init k hs h gs e w = all_front (λ (z : Held). IsTaken k (name_in (plain z.name)) z.taken) hs h (subst (AreHeld k) e w)
+
+pub held_last : (k : Evaluator) (hs : List Held) (h : Held) (gs : List Held) {x : Name} → gs ≡ hs ++ h ∷ [] → x ≡ name_in (plain h.name) → AreHeld k gs → IsTaken k x h.taken
+held_last k hs h gs e q w = subst (λ z. IsTaken k z h.taken) (sym q) (all_last (λ (z : Held). IsTaken k (name_in (plain z.name)) z.taken) hs h (subst (AreHeld k) e w))

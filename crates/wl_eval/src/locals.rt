@@ -61,7 +61,7 @@ fn is_name(e: &Expr) -> bool
 }
 
 /// The local name that the expression is: `x = v`, or where a value isn't needed `x`.
-fn local(e: &Expr, needs_value: bool) -> Result<Option<Local>, Memory>
+fn local_of(e: &Expr, needs_value: bool) -> Result<Option<Local>, Memory>
     ensures read { IfOk result (λ o. option_map local_in o ≡ scopes.local_of (needs_values needs_value) (plain e.now)) }
     ensures honest { (a : Stored) → HonestIn a e.now → IfOk result (λ o. IfSome o (IsLocal a)) }
 {
@@ -106,7 +106,7 @@ pub(crate) fn locals(
     }
     let mut all = Vec::with_capacity(alloc, args.len())?;
     for i in 0..args.len() {
-        let Some(name) = local(&args[i], need_values)? else {
+        let Some(name) = local_of(&args[i], need_values)? else {
             return Ok(None);
         };
         all.push(name)?;

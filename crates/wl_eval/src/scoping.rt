@@ -232,10 +232,10 @@ impl Evaluator {
     {
         let mut left = held;
         'names: loop {
-            let Some(last) = left.pop() else {
+            let Some(Held { name, taken }) = left.pop() else {
                 return;
             };
-            self.give_rules(name_of(&last.name), last.taken);
+            self.give_rules(name_of(&name), taken);
         }
     }
 }

@@ -55,6 +55,7 @@ use Rattle.wl_eval.proofs.ScopingParts.{local_at, local_later, locals_later, loc
 use Rattle.wl_eval.proofs.ScopeRowParts.{block_exit, block_on, block_played, block_row-on, given_plays, given_stops, initial_by, initial_none, initial_some, initials_is, initials_over, module_on, module_plays, module_row-on, row_exit, with_on, with_plays, with_row-on}
 use Rattle.wl_eval.proofs.RowParts.{row_stays, row_at, row_made}
 use Rattle.wl_eval.proofs.ScopeRowParts.{initial_gives, shallow_push}
+use Rattle.wl_eval.proofs.GuardParts.{guard_block, guard_condition, guard_module, guard_none, guard_with}
 use Rattle.wl_eval.proofs.evaluator.Evaluator.+eval.Goals as goal
 
 -- ---- which rule applies
@@ -1178,3 +1179,90 @@ module_row-returns-clause-played g t c =
     let n = c.draw_number-number.result in
     row_at _ _ c.args.self.now c.given.result c.given.new.self (module_row-on (trees c.args.args.now) ∙ ap module_on (sym c.in-Some.ensures.read))
     (row_made _ _ _ c.set_locals.new.self _ _ (given_plays _ _ _ c.set_locals.new.self (module_plays ls vs b _ _ c.in_ok-locals.ensures.played.0 n _ _ c.draw_number-number.ensures.played c.in_ok-set_locals.ensures.played)) (c.given.ensures.played _ c.renamed-made.ensures.made))
+
+pub module_row-set_locals-requires : goal.module_row-set_locals-requires
+module_row-set_locals-requires g t c =
+    let h = c.in_ok-locals.ensures.played in
+    let d = c.draw_number-number.ensures.played in
+    (d.sound (h.0.sound c.requires.sound), subst (local_names.AreLocals c.draw_number-number.new.self.store) (sym c.as_slice-2.ensures.value) (locals_later d c.in_ok-locals.locals.items h.1))
+
+pub module_row-given-requires : goal.module_row-given-requires
+module_row-given-requires g t c =
+    let h = c.in_ok-locals.ensures.played in
+    let d = c.draw_number-number.ensures.played in
+    let m = c.in_ok-set_locals.ensures.played in
+    c.renamed-made.ensures.honest c.set_locals.new.self.store (later m _ (later d _ (later h.0 _ (c.in-Some.ensures.honest c.args.self.now.store c.requires.args).1)))
+
+-- ---- With
+
+pub with_row-returns-in_default-clause-played : goal.with_row-returns-in_default-clause-played
+with_row-returns-in_default-clause-played g t c = row_stays _ _ (with_row-on (trees c.args.args.now) ∙ ap with_on (sym c.in_default.ensures.read))
+
+pub with_row-initials-requires : goal.with_row-initials-requires
+with_row-initials-requires g t c κs within = (search rules, (within, (c.requires.sound, subst (local_names.AreLocals c.args.self.now.store) (sym c.as_slice.ensures.value) (c.in-Some.ensures.honest c.args.self.now.store c.requires.args).0)))
+
+pub with_row-returns-in_err-locals-clause-played : goal.with_row-returns-in_err-locals-clause-played
+with_row-returns-in_err-locals-clause-played g t c =
+    row_at _ _ c.args.self.now c.from_residual.result c.initials.new.self (with_row-on (trees c.args.args.now) ∙ ap with_on (sym c.in-Some.ensures.read))
+    (row_exit local_names.local_list _ _ _ _ _ _ c.from_residual.ensures.1 c.in_err-locals.ensures.played)
+
+pub with_row-returns-clause-played : goal.with_row-returns-clause-played
+with_row-returns-clause-played g t c =
+    let ls = locals_in c.in-Some.names.items in
+    let b = plain c.in-Some.body.now in
+    let vs = locals_in c.in_ok-locals.locals.items in
+    row_at _ _ c.args.self.now c.given.result c.given.new.self (with_row-on (trees c.args.args.now) ∙ ap with_on (sym c.in-Some.ensures.read))
+    (row_made _ _ _ c.initials.new.self _ _ (given_plays _ _ _ c.initials.new.self (with_plays ls vs b _ _ c.in_ok-locals.ensures.played.0)) (c.given.ensures.played _ c.replaced-made.ensures.made))
+
+-- ---- Block
+
+pub block_row-returns-in_default-clause-played : goal.block_row-returns-in_default-clause-played
+block_row-returns-in_default-clause-played g t c = row_stays _ _ (block_row-on (trees c.args.args.now) ∙ ap block_on (sym c.in_default.ensures.read))
+
+pub block_row-initials-requires : goal.block_row-initials-requires
+block_row-initials-requires g t c κs within = (search rules, (within, (c.requires.sound, subst (local_names.AreLocals c.args.self.now.store) (sym c.as_slice.ensures.value) (c.in-Some.ensures.honest c.args.self.now.store c.requires.args).0)))
+
+pub block_row-returns-in_err-locals-clause-played : goal.block_row-returns-in_err-locals-clause-played
+block_row-returns-in_err-locals-clause-played g t c =
+    row_at _ _ c.args.self.now c.from_residual.result c.initials.new.self (block_row-on (trees c.args.args.now) ∙ ap block_on (sym c.in-Some.ensures.read))
+    (row_exit local_names.local_list _ _ _ _ _ _ c.from_residual.ensures.1 c.in_err-locals.ensures.played)
+
+-- ---- guards
+
+pub guard-condition_result-requires : goal.guard-condition_result-requires
+guard-condition_result-requires g t c κs within = (search rules, (within, (c.requires.sound, c.elements.ensures.honest c.args.self.now.store c.requires.honest)))
+
+pub guard-returns-then-is_condition-clause-played : goal.guard-returns-then-is_condition-clause-played
+guard-returns-then-is_condition-clause-played g t c n l =
+    let e = plain c.args.e.now in
+    subst (λ z. Played found_tree z c.args.self.now c.condition_result.result c.condition_result.new.self) (sym (guard_condition n e (omega arith) (sym c.is_condition.ensures ∙ c.if-is_condition.true) ∙ ap matching.condition_result (sym c.elements.ensures.elements)))
+    c.condition_result.ensures.played
+
+pub guard-returns-then-not-is_guarded-clause-played : goal.guard-returns-then-not-is_guarded-clause-played
+guard-returns-then-not-is_guarded-clause-played g t c n l =
+    let e = plain c.args.e.now in
+    (
+      subst (λ z. Plays z c.args.self.now (Ok (Some (plain c.in_ok-copy.field-0))) c.args.self.now false) (sym (guard_none n e (omega arith) (sym c.is_condition.ensures ∙ c.if-is_condition.false) (sym c.is_guarded-is_guarded.ensures ∙ c.if-not-is_guarded.true))) (plays_done_is (ap (λ z. Some (plain z)) (sym c.in_ok-copy.ensures))),
+      subst (Honest c.args.self.now) (sym c.in_ok-copy.ensures) c.requires.honest,
+    )
+
+pub guard-returns-then-is_form-clause-played : goal.guard-returns-then-is_form-clause-played
+guard-returns-then-is_form-clause-played g t c n l =
+    let e = plain c.args.e.now in
+    subst (λ z. Played found_tree z c.args.self.now c.module_guard.result c.module_guard.new.self)
+    (sym (guard_module n e (omega arith) (sym c.is_condition.ensures ∙ c.if-is_condition.false) (sym c.is_guarded-is_guarded.ensures ∙ c.if-not-is_guarded.false) (sym c.is_form.ensures ∙ c.if-is_form.true)))
+    (c.module_guard.ensures.played (n - 1) (omega (arith, l)))
+
+pub guard-returns-then-is_form-2-clause-played : goal.guard-returns-then-is_form-2-clause-played
+guard-returns-then-is_form-2-clause-played g t c n l =
+    let e = plain c.args.e.now in
+    subst (λ z. Played found_tree z c.args.self.now c.with_guard.result c.with_guard.new.self)
+    (sym (guard_with n e (omega arith) (sym c.is_condition.ensures ∙ c.if-is_condition.false) (sym c.is_guarded-is_guarded.ensures ∙ c.if-not-is_guarded.false) (sym c.is_form-2.ensures ∙ c.if-is_form-2.true)))
+    (c.with_guard.ensures.played (n - 1) (omega (arith, l)))
+
+pub guard-returns-clause-played : goal.guard-returns-clause-played
+guard-returns-clause-played g t c n l =
+    let e = plain c.args.e.now in
+    subst (λ z. Played found_tree z c.args.self.now c.block_guard.result c.block_guard.new.self)
+    (sym (guard_block n e (omega arith) (sym c.is_condition.ensures ∙ c.if-is_condition.false) (sym c.is_guarded-is_guarded.ensures ∙ c.if-not-is_guarded.false) (sym c.is_form.ensures ∙ c.if-is_form.false) (sym c.is_form-2.ensures ∙ c.if-is_form-2.false)))
+    (c.block_guard.ensures.played (n - 1) (omega (arith, l)))
