@@ -53,3 +53,7 @@ mod ReplaceRowParts
 mod IteratorParts
 mod ControlParts
 mod Swapping
+mod LocalParts
+mod ScopingParts
+mod ScopeRowParts
+mod GuardParts

@@ -38,6 +38,8 @@ pub mod Operands
 pub mod Prepared
 pub mod Replacing
 pub mod Replies
+pub mod LocalNames
+pub mod Guards
 -- Sessions that are computed.
 pub mod Cells
 pub mod WorkedCells

@@ -76,6 +76,16 @@ use Rattle.wl_eval.specs.declared.replies.Outcome.TheVariants as outcome
 use Rattle.wl_eval.specs.declared.replies.Reply.TheVariants as replies
 use Rattle.wl_eval.proofs.ControlParts.{asked_honest, catches_behind, catches_not, caught_goes, caught_played, caught_stops, comes_at, comes_exit, finishes_exit, holds_next, let_goes, match_goes, match_stops, none_is, none_taken, overflow_ends, pass_goes, pass_stops, proceeds_ends, proceeds_first, proceeds_on, protected_row, ready_at, ready_exit, ready_large, ready_same, ready_set, ready_stop, ready_then, refused_finishes, result_ends, row_begins, row_bounded, set_named, set_nothing, started, starts_row, unchanged_ends, unprotected_row, value_goes, value_stops}
 use Rattle.wl_eval.proofs.Tables.{row_control}
+use Rattle.wl_eval.specs.LocalNames as local_names
+use Rattle.wl_eval.specs.LocalNames.{local_in, locals_in}
+use Rattle.wl_eval.specs.ScopeRows as scope_rows
+use Rattle.wl_eval.specs.Scoping as scoping
+use Rattle.wl_eval.proofs.LocalParts.{locals_at, locals_push, no_locals}
+use Rattle.wl_eval.proofs.ScopingParts.{local_at, local_later, locals_later, locals_pushed}
+use Rattle.wl_eval.proofs.ScopeRowParts.{block_exit, block_on, block_played, block_row-on, given_plays, given_stops, initial_by, initial_none, initial_some, initials_is, initials_over, module_on, module_plays, module_row-on, row_exit, with_on, with_plays, with_row-on}
+use Rattle.wl_eval.proofs.RowParts.{row_stays, row_at, row_made}
+use Rattle.wl_eval.proofs.ScopeRowParts.{initial_gives, shallow_push}
+use Rattle.wl_eval.proofs.GuardParts.{guard_block, guard_condition, guard_module, guard_none, guard_with}
 use Rattle.wl_eval.proofs.evaluator.Evaluator.+eval.Goals as goal
 
 -- ---- which rule applies
@@ -2042,3 +2052,172 @@ row-returns-in-Some-started-clause-played g t c =
     let o = sym c.named-3.ensures ∙ ap (option_map kinds.row_by) c.in_default-named-2.is in
     let h = started es c.in-Some-started.cursor (control.row_of c.args.name.now) (sym (ap (option_map stand) c.in-Some-started.is) ∙ c.in_ok-started.ensures.row) in
     subst (λ p. Played found_tree (sized_row p) c.args.self.now c.control_row.result c.control_row.new.self) (sym (row_control c.args.name.now es h.0 o h.1)) (c.control_row.ensures.played h.0 h.2)
+-- ---- initial values
+
+pub initial-returns-in_default-clause-played : goal.initial-returns-in_default-clause-played
+initial-returns-in_default-clause-played g t c =
+    let x = c.args.name.now in
+    let k = c.args.self.now in
+    let e = c.in_ok-copy.ensures in
+    (subst (λ z. Plays (scoping.initial (local_in x)) k (Ok (local_in z)) k false) (sym e) (initial_none x k c.in_default.is), subst (local_names.IsLocal k.store) (sym e) c.requires.local)
+
+pub initial-returns-in_err-value-clause-played : goal.initial-returns-in_err-value-clause-played
+initial-returns-in_err-value-clause-played g t c =
+    let x = c.args.name.now in
+    subst (λ z. Played local_names.local z c.args.self.now c.from_residual.result c.value_of.new.self) (sym (initial_some x c.in-Some.value c.in-Some.is)) (exit value local_names.local _ _ _ _ _ _ c.from_residual.ensures.1 c.in_err-value.ensures.played)
+
+pub initial-returns-clause-played : goal.initial-returns-clause-played
+initial-returns-clause-played g t c =
+    let x = c.args.name.now in
+    let k = c.args.self.now in
+    let k1 = c.value_of.new.self in
+    let v = c.in_ok-value.value in
+    let h = c.in_ok-value.ensures.played in
+    let e = c.in_ok-copy.ensures in
+    initial_gives x v c.in_ok-copy.field-0 k k1 (initial_some x c.in-Some.value c.in-Some.is) e h.0 (later h.0 x.name c.requires.local.name) h.1.0 c.requires.local.symbol
+
+pub initials-initial-requires : goal.initials-initial-requires
+initials-initial-requires g t c κs within =
+    let l = c.loop-i in
+    (search rules, (within, (l.invariant.sound, local_at _ c.args.names.now l.i c.index-names-i.result c.loop-i-test.true c.index-names-i.is l.invariant.names)))
+
+pub initials-returns-in_err-local-clause-played : goal.initials-returns-in_err-local-clause-played
+initials-returns-in_err-local-clause-played g t c =
+    let l = c.loop-i in
+    let ns = c.args.names.now in
+    let x = c.index-names-i.result in
+    leads_out local_names.local local_names.local_list _ _ _ _ _ _ _ _ _ l.invariant.leads (initials_is (locals_in l.values.items) (local_in x) (locals_in (drop l.i ns)) (locals_in (drop (l.i + 1) ns)) (locals_at ns l.i x c.loop-i-test.true c.index-names-i.is))
+    c.from_residual.ensures.1 c.in_err-local.ensures.played
+
+pub initials-loop-i-preserved : goal.initials-loop-i-preserved
+initials-loop-i-preserved g t c =
+    let l = c.loop-i in
+    let ns = c.args.names.now in
+    let x = c.index-names-i.result in
+    let y = c.in_ok-local.local in
+    let k1 = c.initial.new.self in
+    let h = c.in_ok-local.ensures.played in
+    let push = c.in_ok-push.ensures.items in
+    record {
+      leads = subst (λ zs. Leads (scoping.initials [] (locals_in ns)) c.args.self.now (scoping.initials zs (locals_in (drop (l.i + 1) ns))) k1) (sym (locals_push l.values.items y _ push))
+          (leads_in _ _ _ _ _ _ _ (local_in y) l.invariant.leads (initials_is (locals_in l.values.items) (local_in x) (locals_in (drop l.i ns)) (locals_in (drop (l.i + 1) ns)) (locals_at ns l.i x c.loop-i-test.true c.index-names-i.is)) h.0);
+      sound = h.0.sound l.invariant.sound;
+      names = locals_later h.0 ns l.invariant.names;
+      values = locals_pushed _ l.values.items y _ push (locals_later h.0 l.values.items l.invariant.values) h.1;
+      shallow = λ e. shallow_push l.values.items y _ push (l.invariant.shallow (omega (arith, e, c.in_ok-local.ensures.falls, l.invariant.falls))) (c.in_ok-local.ensures.shallow (omega (arith, e, c.in_ok-local.ensures.falls, l.invariant.falls)));
+      falls = omega (arith, c.in_ok-local.ensures.falls, l.invariant.falls);
+    }
+
+pub initials-returns-clause-played : goal.initials-returns-clause-played
+initials-returns-clause-played g t c =
+    let l = c.loop-i in
+    (l.invariant.leads _ _ _ (initials_over (locals_in l.values.items) (locals_in (drop l.i c.args.names.now)) l.self (no_locals c.args.names.now l.i (omega arith))), l.invariant.values)
+
+-- ---- Module
+
+pub module_row-returns-in_default-clause-played : goal.module_row-returns-in_default-clause-played
+module_row-returns-in_default-clause-played g t c = row_stays _ _ (module_row-on (trees c.args.args.now) ∙ ap module_on (sym c.in_default.ensures.read))
+
+pub module_row-initials-requires : goal.module_row-initials-requires
+module_row-initials-requires g t c κs within = (search rules, (within, (c.requires.sound, subst (local_names.AreLocals c.args.self.now.store) (sym c.as_slice.ensures.value) (c.in-Some.ensures.honest c.args.self.now.store c.requires.args).0)))
+
+pub module_row-returns-in_err-locals-clause-played : goal.module_row-returns-in_err-locals-clause-played
+module_row-returns-in_err-locals-clause-played g t c =
+    row_at _ _ c.args.self.now c.from_residual.result c.initials.new.self (module_row-on (trees c.args.args.now) ∙ ap module_on (sym c.in-Some.ensures.read))
+    (row_exit local_names.local_list _ _ _ _ _ _ c.from_residual.ensures.1 c.in_err-locals.ensures.played)
+
+pub module_row-returns-clause-played : goal.module_row-returns-clause-played
+module_row-returns-clause-played g t c =
+    let ls = locals_in c.in-Some.names.items in
+    let b = plain c.in-Some.body.now in
+    let vs = locals_in c.in_ok-locals.locals.items in
+    let n = c.draw_number-number.result in
+    row_at _ _ c.args.self.now c.given.result c.given.new.self (module_row-on (trees c.args.args.now) ∙ ap module_on (sym c.in-Some.ensures.read))
+    (row_made _ _ _ c.set_locals.new.self _ _ (given_plays _ _ _ c.set_locals.new.self (module_plays ls vs b _ _ c.in_ok-locals.ensures.played.0 n _ _ c.draw_number-number.ensures.played c.in_ok-set_locals.ensures.played)) (c.given.ensures.played _ c.renamed-made.ensures.made))
+
+pub module_row-set_locals-requires : goal.module_row-set_locals-requires
+module_row-set_locals-requires g t c =
+    let h = c.in_ok-locals.ensures.played in
+    let d = c.draw_number-number.ensures.played in
+    (d.sound (h.0.sound c.requires.sound), subst (local_names.AreLocals c.draw_number-number.new.self.store) (sym c.as_slice-2.ensures.value) (locals_later d c.in_ok-locals.locals.items h.1))
+
+pub module_row-given-requires : goal.module_row-given-requires
+module_row-given-requires g t c =
+    let h = c.in_ok-locals.ensures.played in
+    let d = c.draw_number-number.ensures.played in
+    let m = c.in_ok-set_locals.ensures.played in
+    c.renamed-made.ensures.honest c.set_locals.new.self.store (later m _ (later d _ (later h.0 _ (c.in-Some.ensures.honest c.args.self.now.store c.requires.args).1)))
+
+-- ---- With
+
+pub with_row-returns-in_default-clause-played : goal.with_row-returns-in_default-clause-played
+with_row-returns-in_default-clause-played g t c = row_stays _ _ (with_row-on (trees c.args.args.now) ∙ ap with_on (sym c.in_default.ensures.read))
+
+pub with_row-initials-requires : goal.with_row-initials-requires
+with_row-initials-requires g t c κs within = (search rules, (within, (c.requires.sound, subst (local_names.AreLocals c.args.self.now.store) (sym c.as_slice.ensures.value) (c.in-Some.ensures.honest c.args.self.now.store c.requires.args).0)))
+
+pub with_row-returns-in_err-locals-clause-played : goal.with_row-returns-in_err-locals-clause-played
+with_row-returns-in_err-locals-clause-played g t c =
+    row_at _ _ c.args.self.now c.from_residual.result c.initials.new.self (with_row-on (trees c.args.args.now) ∙ ap with_on (sym c.in-Some.ensures.read))
+    (row_exit local_names.local_list _ _ _ _ _ _ c.from_residual.ensures.1 c.in_err-locals.ensures.played)
+
+pub with_row-returns-clause-played : goal.with_row-returns-clause-played
+with_row-returns-clause-played g t c =
+    let ls = locals_in c.in-Some.names.items in
+    let b = plain c.in-Some.body.now in
+    let vs = locals_in c.in_ok-locals.locals.items in
+    row_at _ _ c.args.self.now c.given.result c.given.new.self (with_row-on (trees c.args.args.now) ∙ ap with_on (sym c.in-Some.ensures.read))
+    (row_made _ _ _ c.initials.new.self _ _ (given_plays _ _ _ c.initials.new.self (with_plays ls vs b _ _ c.in_ok-locals.ensures.played.0)) (c.given.ensures.played _ c.replaced-made.ensures.made))
+
+-- ---- Block
+
+pub block_row-returns-in_default-clause-played : goal.block_row-returns-in_default-clause-played
+block_row-returns-in_default-clause-played g t c = row_stays _ _ (block_row-on (trees c.args.args.now) ∙ ap block_on (sym c.in_default.ensures.read))
+
+pub block_row-initials-requires : goal.block_row-initials-requires
+block_row-initials-requires g t c κs within = (search rules, (within, (c.requires.sound, subst (local_names.AreLocals c.args.self.now.store) (sym c.as_slice.ensures.value) (c.in-Some.ensures.honest c.args.self.now.store c.requires.args).0)))
+
+pub block_row-returns-in_err-locals-clause-played : goal.block_row-returns-in_err-locals-clause-played
+block_row-returns-in_err-locals-clause-played g t c =
+    row_at _ _ c.args.self.now c.from_residual.result c.initials.new.self (block_row-on (trees c.args.args.now) ∙ ap block_on (sym c.in-Some.ensures.read))
+    (row_exit local_names.local_list _ _ _ _ _ _ c.from_residual.ensures.1 c.in_err-locals.ensures.played)
+
+-- ---- guards
+
+pub guard-condition_result-requires : goal.guard-condition_result-requires
+guard-condition_result-requires g t c κs within = (search rules, (within, (c.requires.sound, c.elements.ensures.honest c.args.self.now.store c.requires.honest)))
+
+pub guard-returns-then-is_condition-clause-played : goal.guard-returns-then-is_condition-clause-played
+guard-returns-then-is_condition-clause-played g t c n l =
+    let e = plain c.args.e.now in
+    subst (λ z. Played found_tree z c.args.self.now c.condition_result.result c.condition_result.new.self) (sym (guard_condition n e (omega arith) (sym c.is_condition.ensures ∙ c.if-is_condition.true) ∙ ap matching.condition_result (sym c.elements.ensures.elements)))
+    c.condition_result.ensures.played
+
+pub guard-returns-then-not-is_guarded-clause-played : goal.guard-returns-then-not-is_guarded-clause-played
+guard-returns-then-not-is_guarded-clause-played g t c n l =
+    let e = plain c.args.e.now in
+    (
+      subst (λ z. Plays z c.args.self.now (Ok (Some (plain c.in_ok-copy.field-0))) c.args.self.now false) (sym (guard_none n e (omega arith) (sym c.is_condition.ensures ∙ c.if-is_condition.false) (sym c.is_guarded-is_guarded.ensures ∙ c.if-not-is_guarded.true))) (plays_done_is (ap (λ z. Some (plain z)) (sym c.in_ok-copy.ensures))),
+      subst (Honest c.args.self.now) (sym c.in_ok-copy.ensures) c.requires.honest,
+    )
+
+pub guard-returns-then-is_form-clause-played : goal.guard-returns-then-is_form-clause-played
+guard-returns-then-is_form-clause-played g t c n l =
+    let e = plain c.args.e.now in
+    subst (λ z. Played found_tree z c.args.self.now c.module_guard.result c.module_guard.new.self)
+    (sym (guard_module n e (omega arith) (sym c.is_condition.ensures ∙ c.if-is_condition.false) (sym c.is_guarded-is_guarded.ensures ∙ c.if-not-is_guarded.false) (sym c.is_form.ensures ∙ c.if-is_form.true)))
+    (c.module_guard.ensures.played (n - 1) (omega (arith, l)))
+
+pub guard-returns-then-is_form-2-clause-played : goal.guard-returns-then-is_form-2-clause-played
+guard-returns-then-is_form-2-clause-played g t c n l =
+    let e = plain c.args.e.now in
+    subst (λ z. Played found_tree z c.args.self.now c.with_guard.result c.with_guard.new.self)
+    (sym (guard_with n e (omega arith) (sym c.is_condition.ensures ∙ c.if-is_condition.false) (sym c.is_guarded-is_guarded.ensures ∙ c.if-not-is_guarded.false) (sym c.is_form-2.ensures ∙ c.if-is_form-2.true)))
+    (c.with_guard.ensures.played (n - 1) (omega (arith, l)))
+
+pub guard-returns-clause-played : goal.guard-returns-clause-played
+guard-returns-clause-played g t c n l =
+    let e = plain c.args.e.now in
+    subst (λ z. Played found_tree z c.args.self.now c.block_guard.result c.block_guard.new.self)
+    (sym (guard_block n e (omega arith) (sym c.is_condition.ensures ∙ c.if-is_condition.false) (sym c.is_guarded-is_guarded.ensures ∙ c.if-not-is_guarded.false) (sym c.is_form.ensures ∙ c.if-is_form.false) (sym c.is_form-2.ensures ∙ c.if-is_form-2.false)))
+    (c.block_guard.ensures.played (n - 1) (omega (arith, l)))

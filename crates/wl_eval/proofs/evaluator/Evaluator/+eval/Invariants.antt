@@ -30,6 +30,9 @@ use Rattle.wl_control.specs.Cursors.{stand}
 use Rattle.wl_control.specs.Stand.{IsAwaited, after, starts}
 use Rattle.wl_eval.specs.Control.{played}
 use Rattle.wl_eval.specs.Replies.{Holds, Proceeds, Ready, set_aside, told_by}
+use Rattle.wl_expr.specs.Tree.{depth}
+use Rattle.wl_eval.specs.LocalNames.{AreLocals, AreShallow, locals_in}
+use Rattle.wl_eval.specs.Scoping as scoping
 use Rattle.wl_eval.proofs.evaluator.Evaluator.+eval.Given as goal
 
 -- ---- what takes no step of its own stands below what it may be called from; a turn has taken a step
@@ -445,3 +448,49 @@ invariant-answer-questions g l = record {
   proceeds : Proceeds l._answered l.fn.self.steps l.self.steps (after (stand l.cursor) (told_by l.reply));
   falls : l.self.steps ≤ l.fn.self.steps;
 }
+-- ---- Module, With and Block
+
+abbrev pub decreases-initial : goal.decreases-initial
+decreases-initial g l = 8000 * l.self.now.steps + 13
+
+abbrev pub decreases-initials : goal.decreases-initials
+decreases-initials g l = 8000 * l.self.now.steps + 14
+
+abbrev pub decreases-module_row : goal.decreases-module_row
+decreases-module_row g l = 8000 * l.self.now.steps + 7600
+
+abbrev pub decreases-with_row : goal.decreases-with_row
+decreases-with_row g l = 8000 * l.self.now.steps + 7600
+
+abbrev pub decreases-block_row : goal.decreases-block_row
+decreases-block_row g l = 8000 * l.self.now.steps + 7600
+
+abbrev pub invariant-initials-loop-i : goal.invariant-initials-loop-i
+invariant-initials-loop-i g l = record {
+  leads : Leads (scoping.initials [] (locals_in l.names)) l.fn.self (scoping.initials (locals_in l.values.items) (locals_in (drop l.i l.names))) l.self;
+  sound : Sound l.self;
+  names : AreLocals l.self.store l.names;
+  values : AreLocals l.self.store l.values.items;
+  shallow : l.self.steps ≡ l.fn.self.steps → AreShallow l.values.items;
+  falls : l.self.steps ≤ l.fn.self.steps;
+}
+
+-- ---- guards, which fall by steps or by depth
+
+abbrev pub decreases-guard : goal.decreases-guard
+decreases-guard g l = 8000 * l.self.now.steps + 3002 + 3 * depth (plain l.e.now)
+
+abbrev pub decreases-module_guard : goal.decreases-module_guard
+decreases-module_guard g l = 8000 * l.self.now.steps + 3001 + 3 * depth (plain l.e.now)
+
+abbrev pub decreases-with_guard : goal.decreases-with_guard
+decreases-with_guard g l = 8000 * l.self.now.steps + 3001 + 3 * depth (plain l.e.now)
+
+abbrev pub decreases-block_guard : goal.decreases-block_guard
+decreases-block_guard g l = 8000 * l.self.now.steps + 3001 + 3 * depth (plain l.e.now)
+
+abbrev pub decreases-guarded_value : goal.decreases-guarded_value
+decreases-guarded_value g l = 8000 * l.self.now.steps + 3003 + 3 * depth (plain l.e.now)
+
+abbrev pub decreases-condition_result : goal.decreases-condition_result
+decreases-condition_result g l = 8000 * l.self.now.steps + 14

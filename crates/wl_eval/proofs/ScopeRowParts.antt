@@ -1,0 +1,169 @@
+-- How the rows of Module, With and Block play.
+use Rattle.std.proofs.Common.{◌≡◌, ℕ, ◌+◌, ◌<◌, ◌≤◌, Bool, true, false, List, [], ◌∷◌, ◌++◌, length, drop, get_or, reverse, Option, Some, None, option_map, Result, Ok, Err, refl, sym, ap, ◌∙◌, subst}
+use Rattle.std.proofs.lemmas.List.Elements.{All-push}
+use Rattle.std.proofs.lemmas.Result.{err_from_is_err_and}
+use Rattle.std.specs.Result.{IsErrAnd}
+use Rattle.wl_expr.specs.Stamped.{Stamped, plain}
+use Rattle.wl_expr.specs.Tree.{Tree}
+use Rattle.wl_shape.specs.Fill.{rename, replace}
+use Rattle.wl_shape.specs.Scopes as scopes
+use Rattle.wl_shape.specs.Scopes.{names, values, locals}
+use Rattle.wl_eval.specs.State.{End}
+use Rattle.wl_eval.specs.Prog.{Prog, done, ◌>>=◌, draw, number, asking, ended, now, sized, value_of, unchanged}
+use Rattle.wl_eval.specs.LocalNames.{AreShallow, IsShallow, IsSymbol, local, local_in, with_body_of, scope_parts, aside}
+use Rattle.wl_eval.specs.Honest.{HonestIn}
+use Rattle.wl_eval.specs.Operands.{sized_row}
+use Rattle.wl_eval.specs.Played.{Plays, Played, Seen, Leads, tree as value, honest_tree, found_tree}
+use Rattle.wl_eval.specs.ScopeRows as rows
+use Rattle.wl_eval.specs.Scoping as scoping
+use Rattle.wl_eval.specs.Scoping.{names_of, values_of}
+use Rattle.wl_eval.specs.declared.evaluator.Evaluator.{Evaluator}
+use Rattle.wl_eval.specs.declared.ends.Stop.{Stop}
+use Rattle.wl_eval.specs.declared.locals.Local.{Local}
+use Rattle.wl_eval.proofs.Bindings.{bind_assoc}
+use Rattle.wl_eval.proofs.Holding.{held_played}
+use Rattle.wl_eval.proofs.Playing.{plays_bind, plays_done}
+use Rattle.wl_eval.proofs.Rows.{played_stop, played_bind}
+
+-- ---- initial values
+
+pub initial_none : (l : Local) (k : Evaluator) → l.value ≡ None → Plays (scoping.initial (local_in l)) k (Ok (local_in l)) k false
+initial_none l k e = at l.value e
+  where
+    at : (o : Option Stamped) → o ≡ None → Plays (elim (option_map plain o) [ None ↦ done (local_in l) | Some t ↦ value_of t >>= λ v. done (record (local_in l) { value = Some v }) ]) k (Ok (local_in l)) k false
+    at None e = plays_done
+    at (Some v) e = absurd (let q : Some v ≡ None = e in cc)
+
+abbrev pub initial_by : scopes.Local → Tree → Prog scopes.Local
+initial_by l v = done (record l { value = Some v })
+
+pub initial_some : (l : Local) (v : Stamped) → l.value ≡ Some v → scoping.initial (local_in l) ≡ (value_of (plain v) >>= initial_by (local_in l))
+initial_some l v e = ap (λ (o : Option Stamped). elim (option_map plain o) [ None ↦ done (local_in l) | Some t ↦ value_of t >>= λ u. done (record (local_in l) { value = Some u }) ]) e
+
+-- a local name whose value was evaluated
+pub initial_gives : (l : Local) (v n : Stamped) (k k1 : Evaluator) (t : Tree) → scoping.initial (local_in l) ≡ (value_of t >>= initial_by (local_in l)) → n ≡ l.name → Plays (value_of t) k (Ok (plain v)) k1 false → HonestIn k1.store l.name → HonestIn k1.store v → IsSymbol l.name
+    → Played local (scoping.initial (local_in l)) k (Ok (record { name = n; value = Some v })) k1
+initial_gives l v n k k1 t e q h x y s =
+    let made : Local = record { name = l.name; value = Some v } in
+    subst (λ (z : Stamped). Played local (scoping.initial (local_in l)) k (Ok (record { name = z; value = Some v })) k1) (sym q)
+    (subst (λ p. Plays p k (Ok (local_in made)) k1 false) (sym e) (plays_bind (value_of t) (initial_by (local_in l)) h plays_done), record { symbol = s; name = x; value = y })
+
+pub shallow_push : (ls : List Local) (l : Local) (ms : List Local) → ms ≡ ls ++ l ∷ [] → AreShallow ls → IsShallow l → AreShallow ms
+shallow_push ls l ms e h w = subst AreShallow (sym e) (All-push IsShallow ls l h w)
+
+pub initials_is : (vs : List scopes.Local) (l : scopes.Local) (ms ls : List scopes.Local) → ms ≡ l ∷ ls → scoping.initials vs ms ≡ (scoping.initial l >>= λ v. scoping.initials (vs ++ v ∷ []) ls)
+unfolding scoping.initials
+initials_is vs l ms ls e = ap (scoping.initials vs) e
+
+pub initials_over : (vs ms : List scopes.Local) (k : Evaluator) → ms ≡ [] → Plays (scoping.initials vs ms) k (Ok vs) k false
+unfolding scoping.initials
+initials_over vs ms k e = subst (λ ls. Plays (scoping.initials vs ls) k (Ok vs) k false) (sym e) plays_done
+
+-- ---- rows by their parts
+
+abbrev pub Parts : Type 0
+Parts = List scopes.Local × Tree
+
+abbrev pub module_on : Option Parts → Prog (Option Tree)
+module_on None = unchanged
+module_on (Some p) = rows.given (scoping.module_body false p.0 p.1)
+
+abbrev pub with_on : Option Parts → Prog (Option Tree)
+with_on None = unchanged
+with_on (Some p) = rows.given (scoping.with_body p.0 p.1)
+
+abbrev pub block_on : Option Parts → Prog (Option Tree)
+block_on None = unchanged
+block_on (Some p) = rows.given (scoping.in_block p.0 (value_of p.1))
+
+pub module_row-on : (es : List Tree) → rows.module_row es ≡ module_on (scope_parts names es)
+module_row-on [] = refl
+module_row-on (v ∷ []) = refl
+module_row-on (v ∷ b ∷ []) = by (locals names v)
+  where
+    by : (o : Option (List scopes.Local)) → rows.module_by o b ≡ module_on (with_body_of o b)
+    by None = refl
+    by (Some ls) = refl
+module_row-on (v ∷ b ∷ t ∷ es) = refl
+
+pub with_row-on : (es : List Tree) → rows.with_row es ≡ with_on (scope_parts values es)
+with_row-on [] = refl
+with_row-on (v ∷ []) = refl
+with_row-on (v ∷ b ∷ []) = by (locals values v)
+  where
+    by : (o : Option (List scopes.Local)) → rows.with_by o b ≡ with_on (with_body_of o b)
+    by None = refl
+    by (Some ls) = refl
+with_row-on (v ∷ b ∷ t ∷ es) = refl
+
+pub block_row-on : (es : List Tree) → rows.block_row es ≡ block_on (scope_parts names es)
+block_row-on [] = refl
+block_row-on (v ∷ []) = refl
+block_row-on (v ∷ b ∷ []) = by (locals names v)
+  where
+    by : (o : Option (List scopes.Local)) → rows.block_by o b ≡ block_on (with_body_of o b)
+    by None = refl
+    by (Some ls) = refl
+block_row-on (v ∷ b ∷ t ∷ es) = refl
+
+-- what is stopped, stops the row
+pub given_stops : {X : Type 0} (seen : Seen X Tree) (p : Prog Tree) (k : Evaluator) (e : Stop) (k1 : Evaluator) → Played seen p k (Err e) k1 → Played found_tree (sized_row (rows.given p)) k (Err e) k1
+given_stops seen p k e k1 m = played_stop found_tree found_tree (rows.given p) _ k e k1 (played_stop seen found_tree p _ k e k1 m)
+
+pub row_exit : {X A : Type 0} (seen : Seen X A) (p : Prog A) (f : A → Prog Tree) (k k1 : Evaluator) (r : Result (Option Stamped) Stop) (e : Stop) → IsErrAnd r (λ d. d ≡ e) → Played seen p k (Err e) k1
+    → Played found_tree (sized_row (rows.given (p >>= f))) k r k1
+row_exit seen p f k k1 r e h m =
+    let q = err_from_is_err_and r h in
+    subst (λ z. Played found_tree (sized_row (rows.given (p >>= f))) k z k1) (sym (q.0 ∙ ap Err q.1)) (given_stops honest_tree (p >>= f) k e k1 (played_stop seen honest_tree p f k e k1 m))
+
+pub given_plays : (p : Prog Tree) (t : Tree) (k k1 : Evaluator) → Plays p k (Ok t) k1 false → Plays (rows.given p) k (Ok (Some t)) k1 false
+given_plays p t k k1 h = plays_bind p _ h plays_done
+
+-- ---- Module and With
+
+module _ (ls vs : List scopes.Local) (b : Tree) (k k1 : Evaluator) (h : Plays (scoping.initials [] ls) k (Ok vs) k1 false) where
+  pub module_plays : (n : ℕ) (k2 k3 : Evaluator) → Plays (asking draw) k1 (Ok (number n)) k2 false → Plays (scoping.set_locals n vs) k2 (Ok tt) k3 false
+      → Plays (scoping.module_body false ls b) k (Ok (rename b (names_of vs) n)) k3 false
+  module_plays n k2 k3 d s =
+      plays_bind (scoping.initials [] ls) _ h (plays_bind (asking draw) _ d (plays_bind (scoping.sized_if false (rename b (names_of vs) n)) _ plays_done (plays_bind (scoping.set_locals n vs) _ s plays_done)))
+
+  pub with_plays : Plays (scoping.with_body ls b) k (Ok (replace b (names_of vs) (values_of vs))) k1 false
+  with_plays = plays_bind (scoping.initials [] ls) _ h plays_done
+
+-- ---- Block
+
+-- what is inside, and then the rules given back
+abbrev pub held_inside : {R : Type 0} → Prog R → List scoping.Taken → Prog R
+held_inside inside ts = ended inside >>= λ r. scoping.give_all (reverse ts) >>= λ _. now r
+
+bind_done : {A B : Type 0} (a : A) (f : A → Prog B) → (done a >>= f) ≡ f a
+unfolding ◌>>=◌
+bind_done a f = refl
+
+aside_is : {R : Type 0} (vs : List scopes.Local) (g : List scoping.Taken → Prog R) → (scoping.blocked [] vs >>= λ os. scoping.take_all [] os >>= λ ts. scoping.set_all os >>= λ _. g ts) ≡ (aside vs >>= g)
+aside_is vs g =
+    sym (bind_assoc (scoping.blocked [] vs) (λ os. scoping.take_all [] os >>= λ ts. scoping.set_all os >>= λ _. done ts) g ∙ (λ i. scoping.blocked [] vs >>= λ os. taken os i))
+  where
+    set : (os : List scopes.Local) (ts : List scoping.Taken) → ((scoping.set_all os >>= λ _. done ts) >>= g) ≡ (scoping.set_all os >>= λ _. g ts)
+    set os ts = bind_assoc (scoping.set_all os) (λ _. done ts) g ∙ (λ i. scoping.set_all os >>= λ _. bind_done ts g i)
+
+    taken : (os : List scopes.Local) → ((scoping.take_all [] os >>= λ ts. scoping.set_all os >>= λ _. done ts) >>= g) ≡ (scoping.take_all [] os >>= λ ts. scoping.set_all os >>= λ _. g ts)
+    taken os = bind_assoc (scoping.take_all [] os) (λ ts. scoping.set_all os >>= λ _. done ts) g ∙ (λ i. scoping.take_all [] os >>= λ ts. set os ts i)
+
+pub in_block_is : {R : Type 0} (ls : List scopes.Local) (inside : Prog R) → scoping.in_block ls inside ≡ (scoping.initials [] ls >>= λ vs. aside vs >>= held_inside inside)
+in_block_is ls inside = λ i. scoping.initials [] ls >>= λ vs. aside_is vs (held_inside inside) i
+
+pub aside_plays : (vs os : List scopes.Local) (ts : List scoping.Taken) (k k1 k2 k3 : Evaluator) → Plays (scoping.blocked [] vs) k (Ok os) k1 false → Plays (scoping.take_all [] os) k1 (Ok ts) k2 false → Plays (scoping.set_all os) k2 (Ok tt) k3 false
+    → Plays (aside vs) k (Ok ts) k3 false
+aside_plays vs os ts k k1 k2 k3 b t s = plays_bind (scoping.blocked [] vs) _ b (plays_bind (scoping.take_all [] os) _ t (plays_bind (scoping.set_all os) _ s plays_done))
+
+pub block_played : {X R : Type 0} (seen : Seen X R) (ls vs : List scopes.Local) (ts : List scoping.Taken) (inside : Prog R) (k k1 k2 k3 k4 : Evaluator) (r : Result X Stop) → Plays (scoping.initials [] ls) k (Ok vs) k1 false → Plays (aside vs) k1 (Ok ts) k2 false
+    → ((x : X) → seen.good k3 x → seen.good k4 x) → Played seen inside k2 r k3 → Plays (scoping.give_all (reverse ts)) k3 (Ok tt) k4 false → Played seen (scoping.in_block ls inside) k r k4
+block_played seen ls vs ts inside k k1 k2 k3 k4 r h a g m b =
+    subst (λ p. Played seen p k r k4) (sym (in_block_is ls inside))
+    (played_bind seen (scoping.initials [] ls) (λ us. aside us >>= held_inside inside) k k1 vs r k4 h
+    (played_bind seen (aside vs) (held_inside inside) k1 k2 ts r k4 a (held_played seen inside (scoping.give_all (reverse ts)) k2 k3 k4 r g m b)))
+
+-- where the initial values stop
+pub block_exit : {X Y R : Type 0} (seen : Seen X (List scopes.Local)) (seen' : Seen Y R) (ls : List scopes.Local) (inside : Prog R) (k : Evaluator) (e : Stop) (k1 : Evaluator) → Played seen (scoping.initials [] ls) k (Err e) k1 → Played seen' (scoping.in_block ls inside) k (Err e) k1
+block_exit seen seen' ls inside k e k1 m = played_stop seen seen' (scoping.initials [] ls) _ k e k1 m
