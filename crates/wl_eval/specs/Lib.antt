@@ -35,6 +35,8 @@ pub mod Recall
 pub mod Kinds
 pub mod Parts
 pub mod Operands
+pub mod Slots
+pub mod Endings
 -- Sessions that are computed.
 pub mod Cells
 pub mod WorkedCells

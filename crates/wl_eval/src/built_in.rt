@@ -9,7 +9,7 @@ ghost use Rattle.wl_eval.specs.Parts.{Answers, HonestApplied, sized_row};
 ghost use Rattle.wl_eval.specs.Played.{AllHonest, Honest, Played, Plays, Sound, found_tree, trees};
 ghost use Rattle.wl_eval.specs.PureRows as pure;
 
-use crate::elements::is_form;
+use crate::end_rows::{abort_row, break_row, continue_row, throw_row};
 use crate::ends::Stop;
 use crate::evaluator::Evaluator;
 use crate::kind::Kind;
@@ -17,7 +17,6 @@ use std::slice;
 use wl_control::Cursor;
 use wl_expr::{Applied, Expr, ExprFault, Look, Notice};
 use wl_ports::{Ledger, Memory, Work};
-use wl_rules::Attributes;
 
 /// Whether a name begins as each of a built-in function does.
 fn begins_capital(name: &str) -> bool
@@ -48,11 +47,7 @@ impl Evaluator {
         if let Look::Symbol(name) = head.view() {
             return self.row(name, args, work);
         }
-        // Functions come here.
-        if is_form(head, "Function") {
-            return Err(Stop::Memory);
-        }
-        Ok(None)
+        self.function_row(head, args, work)
     }
 
     /// The result of the row of a name, where it has one.
@@ -102,11 +97,18 @@ impl Evaluator {
         ensures played { Played found_tree (sized_row (row_by kind (trees args.now))) self.old result self.new }
         ensures falls { self.new.steps ≤ self.old.steps }
     {
-        // These rows come here.
-        if self.steps == 0 {
-            let _values = self.elements(Attributes::none(), args, work);
+        match kind {
+            Kind::Throw => throw_row(args),
+            Kind::Catch => self.catch_row(args, work),
+            Kind::Abort => abort_row(args),
+            Kind::CheckAbort => self.check_abort_row(args, work),
+            Kind::Break => break_row(args),
+            Kind::Continue => continue_row(args),
+            Kind::Quiet => self.quiet_row(args, work),
+            Kind::Check => self.check_row(args, work),
+            // The other rows come here.
+            _ => Err(Stop::Memory),
         }
-        Err(Stop::Memory)
     }
 
     /// What a row that looks at its elements alone gives, with its message.

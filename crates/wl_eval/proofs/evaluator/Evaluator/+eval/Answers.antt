@@ -34,7 +34,7 @@ use Rattle.wl_eval.proofs.Tables.{row_algebra, row_lists, row_special, row_none,
 use Rattle.wl_eval.proofs.Notices.{algebra_notices, lists_notices}
 use Rattle.wl_eval.proofs.Answering.{algebra_answers, lists_answers, algebra_honest, lists_honest}
 use Rattle.wl_eval.proofs.Shapes.{stays_plays, HonestShaped, shaped_honest, shape_stops, shape_is, threaded_plays, uneven_plays}
-use Rattle.wl_eval.proofs.Rounds.{no_symbol, no_node, node_makes, node_is, or_found, or_next, or_plays, no_rules, head_values-is, tried_at, up_named, up_unnamed, up_over, up_values-held, up_values-tried, built_in-node, built_in-none, plays_no_built_in, evaluated-held, evaluated-each, evaluated-value, evaluated-kept, evaluated-over, trees_push, turned_played, final_is, final_honest, turn_symbol, leaf_turn, symbol_back, node_turned}
+use Rattle.wl_eval.proofs.Rounds.{no_symbol, no_node, node_makes, node_is, or_found, or_next, or_plays, no_rules, head_values-is, tried_at, up_named, up_unnamed, up_over, up_values-held, up_values-tried, built_in-node, built_in-none, evaluated-held, evaluated-each, evaluated-value, evaluated-kept, evaluated-over, trees_push, turned_played, final_is, final_honest, turn_symbol, leaf_turn, symbol_back, node_turned}
 use Rattle.std.specs.List.{All}
 use Rattle.wl_match.specs.Left.{left, binding}
 use Rattle.wl_match.specs.Parts.{kept, whole}
@@ -117,10 +117,6 @@ built_in-returns-in-Symbol-clause-played g t c =
     let es = c.in-Node.args.now in
     let q = ap (λ us. node (plain c.in-Node.head.now) us) (sym (plains_trees es)) ∙ c.in-Node.ensures.plain in
     subst (λ p. Played found_tree p c.args.self.now c.row.result c.row.new.self) (sym (built_in-node (plain c.in-Node.head.now) (trees es) c.in-Symbol.name.now (plain c.args.form.now) c.in-Symbol.ensures.plain q)) c.row.ensures.played
-
-pub built_in-returns-clause-played : goal.built_in-returns-clause-played
-built_in-returns-clause-played g t c =
-    (plays_no_built_in (plain c.in-Node.head.now) _ _ c.args.self.now c.in-Node.ensures.plain (no_symbol _ _ _ c.view-2.ensures.all c.in_default-view.not-Symbol) (sym c.is_form.ensures ∙ c.if-is_form.false), tt)
 
 -- ---- elements
 
@@ -212,14 +208,14 @@ evaluate-returns-then-is_leaf-clause-played g t c =
 
 pub evaluate-returns-then-depth-self-clause-played : goal.evaluate-returns-then-depth-self-clause-played
 evaluate-returns-then-depth-self-clause-played g t c =
-    (plays_too_deep c.args.e c.args.self.now c.too_deep.new.self (sym c.is_leaf.ensures ∙ c.if-is_leaf.false) c.requires.sound (omega arith) c.in_ok-too_deep.ensures.played, tt)
+    (plays_too_deep c.args.e c.args.self.now c.too_deep.new.self (sym c.is_leaf.ensures ∙ c.if-is_leaf.false) c.requires.sound.recursion (omega arith) c.in_ok-too_deep.ensures.played, tt)
 
 pub evaluate-returns-clause-played : goal.evaluate-returns-clause-played
 evaluate-returns-clause-played g t c =
     let k = c.args.self.now in
     let k1 = c.turns.new.self in
     let w = subst (λ z. TurnsEnd 1 (plain c.args.e) z (Ok c.in_ok-end.end) k1) c.open.ensures c.in_ok-end.ensures.played in (
-      plays_turns c.args.e k k1 (end_of c.in_ok-end.end) (sym c.is_leaf.ensures ∙ c.if-is_leaf.false) c.requires.sound (omega arith) w.0,
+      plays_turns c.args.e k k1 (end_of c.in_ok-end.end) (sym c.is_leaf.ensures ∙ c.if-is_leaf.false) c.requires.sound.recursion (omega arith) w.0,
       end_closed k1 k.depth c.in_ok-end.end (let d = turns_depth 1 (plain c.args.e) (entered k) k1 _ w.0 in omega (arith, d)) w.1,
     )
 
@@ -1086,3 +1082,24 @@ trial-loop-i-preserved g t c =
 
 pub trial-returns-clause-played : goal.trial-returns-clause-played
 trial-returns-clause-played g t c = (c.loop-i.invariant.leads _ _ _ (trial_over c.args.rules.now c.loop-i.i (plain c.args.e.now) c.loop-i.self (omega arith)), tt)
+
+-- ---- ends, Quiet and Check
+
+pub evaluate_quietly-returns-then-is_leaf-clause-played : goal.evaluate_quietly-returns-then-is_leaf-clause-played
+evaluate_quietly-returns-then-is_leaf-clause-played g t c = (leaf_quietly c.args.e c.args.self.now (sym c.is_leaf.ensures ∙ c.if-is_leaf.true), c.requires.honest)
+
+pub evaluate_quietly-returns-then-depth-self-clause-played : goal.evaluate_quietly-returns-then-depth-self-clause-played
+evaluate_quietly-returns-then-depth-self-clause-played g t c = (c.in_ok-too_deep_quietly.ensures.played c.args.e (sym c.is_leaf.ensures ∙ c.if-is_leaf.false), tt)
+
+pub evaluate_quietly-turns-requires : goal.evaluate_quietly-turns-requires
+evaluate_quietly-turns-requires g t c κs within =
+    let k = c.args.self.now in
+    let h = hushed_is k c.open.new.self c.quiet.new.self c.open.ensures c.quiet.ensures in
+    (search rules, (within, (subst Sound (sym h) (quieted_sound k (omega arith) c.requires.sound), subst (λ z. Honest z c.args.e) (sym h) c.requires.honest)))
+
+pub evaluate_quietly-returns-clause-played : goal.evaluate_quietly-returns-clause-played
+evaluate_quietly-returns-clause-played g t c =
+    let k = c.args.self.now in
+    let h = hushed_is k c.open.new.self c.quiet.new.self c.open.ensures c.quiet.ensures in
+    let w = subst (λ z. TurnsEnd 1 (plain c.args.e) z (Ok c.in_ok-end.end) c.turns.new.self) h c.in_ok-end.ensures.played in
+    quiet_ended c.args.e k c.turns.new.self c.in_ok-end.end c.unquiet.new.self (sym c.is_leaf.ensures ∙ c.if-is_leaf.false) c.requires.sound (omega arith) w c.unquiet.ensures
