@@ -1,19 +1,21 @@
 -- What rows give of how evaluations end.
-use Rattle.std.proofs.Common.{◌≡◌, ℕ, Bool, true, false, ◌||◌, ◌∷◌, Option, Some, None, option_map, Result, Ok, Err, refl, sym, ap, ◌∙◌, subst}
+use Rattle.std.proofs.Common.{◌≡◌, ℕ, Bool, true, false, ◌||◌, List, [], ◌∷◌, length, Option, Some, None, option_map, Result, Ok, Err, refl, sym, ap, ap₂, ◌∙◌, subst}
+use Rattle.std.proofs.lemmas.List.Elements.{All-head, All-tail}
 use Rattle.wl_expr.specs.Stamped.{Stamped, plain}
 use Rattle.wl_expr.specs.Tree.{Tree, IsWithinLimits}
 use Rattle.wl_expr.proofs.Small.{fits_decides}
 use Rattle.wl_eval.specs.State as spec
 use Rattle.wl_eval.specs.State.{State, End, BudgetEnded}
 use Rattle.wl_eval.specs.Prog as prog
-use Rattle.wl_eval.specs.Prog.{Prog, stop, ◌>>=◌, now, valued, result}
+use Rattle.wl_eval.specs.Prog.{Prog, done, stop, ◌>>=◌, now, valued, result}
 use Rattle.wl_eval.specs.BuiltIn.{sized_result}
-use Rattle.wl_eval.specs.EndRows.{after_abort, catch_plain, catch_tagged, passed_on}
+use Rattle.wl_eval.specs.EndRows.{abort_row, after_abort, break_row, catch_plain, catch_row, catch_tagged, check_abort_row, continue_row, passed_on, throw_row}
+use Rattle.wl_eval.specs.MessageRows.{check_row, quiet_row}
 use Rattle.wl_eval.specs.Match.{matches}
 use Rattle.wl_eval.specs.Honest.{HonestIn, HonestOption}
 use Rattle.wl_eval.specs.Eval.{interp, is_budget_end, Go}
 use Rattle.wl_eval.specs.Parts.{sized_row}
-use Rattle.wl_eval.specs.Played.{Plays, Played, Ended, Valued, Honest, HonestEnd, GoodEnd, found_tree, itself, end_of, state}
+use Rattle.wl_eval.specs.Played.{Plays, Played, Ended, Valued, Honest, AllHonest, HonestEnd, GoodEnd, found_tree, itself, end_of, state, trees}
 use Rattle.wl_eval.specs.declared.evaluator.Evaluator.{Evaluator}
 use Rattle.wl_eval.specs.declared.ends.Stop.{Stop}
 use Rattle.wl_eval.specs.declared.ends.Stop.TheVariants as stops
@@ -69,16 +71,19 @@ row_end p f k k1 a u r k2 h b m = subst (λ q. Played found_tree q k r k2) (sym 
 
 -- ---- the value of an end
 
+err_inj : {A : Type 0} {a b : Stop} → ◌≡◌ {A = Result A Stop} (Err a) (Err b) → a ≡ b
+err_inj e = cc
+
 -- what is no value stops
 pub valued_stops : (g : Tree → Prog (Option Tree)) (k : Evaluator) (e : ends.End) (v : Result Stamped Stop) (s : Stop) → v ≡ Err s → Valued e v → HonestEnd k e → Played found_tree (sized_row (now (valued (end_of e)) >>= g)) k (Err s) k
 valued_stops g k (end.Value w) v s q d h = absurd (let z = sym q ∙ d in cc)
 valued_stops g k (end.Thrown w t) v s q d h =
-    subst (λ z. Played found_tree (sized_row (now (valued (end_of (end.Thrown w t))) >>= g)) k z k) (sym d ∙ q)
+    subst (λ z. Played found_tree (sized_row (now (valued (end_of (end.Thrown w t))) >>= g)) k (Err z) k) (err_inj (sym d ∙ q))
     (plays_stop _ _ (plays_stop _ g (plays_now (Err (spec.Thrown (plain w) (option_map plain t))) k)), h)
-valued_stops g k end.Aborted v s q d h = subst (λ z. Played found_tree (sized_row (now (valued spec.Aborted) >>= g)) k z k) (sym d ∙ q) (plays_stop _ _ (plays_stop _ g (plays_now (Err spec.Aborted) k)), tt)
-valued_stops g k end.BudgetEnded v s q d h = subst (λ z. Played found_tree (sized_row (now (valued BudgetEnded) >>= g)) k z k) (sym d ∙ q) (plays_stop _ _ (plays_stop _ g (plays_now (Err BudgetEnded) k)), tt)
-valued_stops g k end.Broke v s q d h = subst (λ z. Played found_tree (sized_row (now (valued spec.Broke) >>= g)) k z k) (sym d ∙ q) (plays_stop _ _ (plays_stop _ g (plays_now (Err spec.Broke) k)), tt)
-valued_stops g k end.Continued v s q d h = subst (λ z. Played found_tree (sized_row (now (valued spec.Continued) >>= g)) k z k) (sym d ∙ q) (plays_stop _ _ (plays_stop _ g (plays_now (Err spec.Continued) k)), tt)
+valued_stops g k end.Aborted v s q d h = subst (λ z. Played found_tree (sized_row (now (valued spec.Aborted) >>= g)) k (Err z) k) (err_inj (sym d ∙ q)) (plays_stop _ _ (plays_stop _ g (plays_now (Err spec.Aborted) k)), tt)
+valued_stops g k end.BudgetEnded v s q d h = subst (λ z. Played found_tree (sized_row (now (valued BudgetEnded) >>= g)) k (Err z) k) (err_inj (sym d ∙ q)) (plays_stop _ _ (plays_stop _ g (plays_now (Err BudgetEnded) k)), tt)
+valued_stops g k end.Broke v s q d h = subst (λ z. Played found_tree (sized_row (now (valued spec.Broke) >>= g)) k (Err z) k) (err_inj (sym d ∙ q)) (plays_stop _ _ (plays_stop _ g (plays_now (Err spec.Broke) k)), tt)
+valued_stops g k end.Continued v s q d h = subst (λ z. Played found_tree (sized_row (now (valued spec.Continued) >>= g)) k (Err z) k) (err_inj (sym d ∙ q)) (plays_stop _ _ (plays_stop _ g (plays_now (Err spec.Continued) k)), tt)
 
 -- with a value the row goes on
 pub valued_goes_on : (g : Tree → Prog (Option Tree)) (k : Evaluator) (e : ends.End) (v : Result Stamped Stop) (x : Stamped) (r : Result (Option Stamped) Stop) → v ≡ Ok x → Valued e v → HonestEnd k e
@@ -104,7 +109,7 @@ pub given_fits : (k : Evaluator) (v : Stamped) → IsWithinLimits (plain v) → 
 given_fits k v f h = row_gives (result (plain v)) k k v plays_done ((fits_decides (plain v)).1 f) h
 
 -- what was thrown with a tag, once the pattern was tried on that
-thrown_by : Tree → Tree → Bool → Prog (Option Tree)
+abbrev thrown_by : Tree → Tree → Bool → Prog (Option Tree)
 thrown_by v t b = elim b [ true ↦ result v | false ↦ stop (spec.Thrown v (Some t)) ]
 
 thrown_goes_on : (p v t : Tree) (k k1 : Evaluator) (b : Bool) (r : Result (Option Stamped) Stop) → Plays (matches p t) k (Ok b) k1 false → Played found_tree (sized_row (thrown_by v t b)) k1 r k1 → Played found_tree (sized_row (catch_tagged p (spec.Thrown v (Some t)))) k r k1
@@ -220,3 +225,87 @@ heard_fits k f x r b p q w h =
 
 pub unheard_fits : (k : Evaluator) (f x : Stamped) (b : Bool) → b ≡ false → IsWithinLimits (plain x) → Honest k x → Played found_tree (sized_row (result (elim b [ true ↦ plain f | false ↦ plain x ]))) k (Ok (Some x)) k
 unheard_fits k f x b p w h = subst (λ z. Played found_tree (sized_row (result (elim z [ true ↦ plain f | false ↦ plain x ]))) k (Ok (Some x)) k) (sym p) (given_fits k x w h)
+
+-- ---- rows that catch, by their elements
+
+pub catch_one : (k k1 : Evaluator) (es : List Stamped) (e : Stamped) (x : ends.End) (r : Result (Option Stamped) Stop) → es ≡ e ∷ [] → Ended (plain e) k (Ok x) k1 → (HonestEnd k1 x → Played found_tree (sized_row (catch_plain (end_of x))) k1 r k1)
+    → Played found_tree (sized_row (catch_row (trees es))) k r k1
+catch_one k k1 es e x r q h m = subst (λ us. Played found_tree (sized_row (catch_row (trees us))) k r k1) (sym q) (ended_row (λ u. catch_plain u) (plain e) k k1 x r k1 (budget_stops (λ v. result v)) h m)
+
+pub catch_two : (k k1 : Evaluator) (es : List Stamped) (e p : Stamped) (x : ends.End) (r : Result (Option Stamped) Stop) (k2 : Evaluator) → es ≡ e ∷ p ∷ [] → Ended (plain e) k (Ok x) k1
+    → (HonestEnd k1 x → Played found_tree (sized_row (catch_tagged (plain p) (end_of x))) k1 r k2) → Played found_tree (sized_row (catch_row (trees es))) k r k2
+catch_two k k1 es e p x r k2 q h m = subst (λ us. Played found_tree (sized_row (catch_row (trees us))) k r k2) (sym q) (ended_row (λ u. catch_tagged (plain p) u) (plain e) k k1 x r k2 (budget_stops (λ v. result v)) h m)
+
+pub abort_two : (k k1 : Evaluator) (es : List Stamped) (e f : Stamped) (x : ends.End) (r : Result (Option Stamped) Stop) → es ≡ e ∷ f ∷ [] → Ended (plain e) k (Ok x) k1
+    → (HonestEnd k1 x → Played found_tree (sized_row (after_abort (plain f) (end_of x))) k1 r k1) → Played found_tree (sized_row (check_abort_row (trees es))) k r k1
+abort_two k k1 es e f x r q h m = subst (λ us. Played found_tree (sized_row (check_abort_row (trees us))) k r k1) (sym q) (ended_row (λ u. after_abort (plain f) u) (plain e) k k1 x r k1 (budget_stops (λ v. result v)) h m)
+
+-- ---- rows that stop
+
+pub throw_one : (k : Evaluator) (es : List Stamped) (v r : Stamped) → es ≡ v ∷ [] → r ≡ v → AllHonest k es → Played found_tree (sized_row (throw_row (trees es))) k (Err (stops.Thrown r None)) k
+throw_one k es v r q p h =
+    let g : AllHonest k (v ∷ []) = subst (AllHonest k) q h in
+    subst (λ us. Played found_tree (sized_row (throw_row (trees us))) k (Err (stops.Thrown r None)) k) (sym q)
+    (subst (λ z. Played found_tree (sized_row (throw_row (plain v ∷ []))) k (Err (stops.Thrown z None)) k) (sym p)
+    (plays_stop (stop (spec.Thrown (plain v) None)) _ (plays_stops (spec.Thrown (plain v) None) k), (All-head (Honest k) v [] g, tt)))
+
+pub throw_two : (k : Evaluator) (es : List Stamped) (v t r u : Stamped) → es ≡ v ∷ t ∷ [] → r ≡ v → u ≡ t → AllHonest k es → Played found_tree (sized_row (throw_row (trees es))) k (Err (stops.Thrown r (Some u))) k
+throw_two k es v t r u q p w h =
+    let g : AllHonest k (v ∷ t ∷ []) = subst (AllHonest k) q h in
+    let e : stops.Thrown v (Some t) ≡ stops.Thrown r (Some u) = ap₂ (λ x y. let z : Stop = stops.Thrown x (Some y) in z) (sym p) (sym w) in
+    subst (λ us. Played found_tree (sized_row (throw_row (trees us))) k (Err (stops.Thrown r (Some u))) k) (sym q)
+    (subst (λ z. Played found_tree (sized_row (throw_row (plain v ∷ plain t ∷ []))) k (Err z) k) e
+    (plays_stop (stop (spec.Thrown (plain v) (Some (plain t)))) _ (plays_stops (spec.Thrown (plain v) (Some (plain t))) k), (All-head (Honest k) v (t ∷ []) g, All-head (Honest k) t [] (All-tail (Honest k) v (t ∷ []) g))))
+
+module _ (k : Evaluator) (es : List Stamped) (q : es ≡ []) where
+  pub abort_none : Played found_tree (sized_row (abort_row (trees es))) k (Err stops.Aborted) k
+  abort_none = subst (λ us. Played found_tree (sized_row (abort_row (trees us))) k (Err stops.Aborted) k) (sym q) (plays_stop (stop spec.Aborted) _ (plays_stops spec.Aborted k), tt)
+
+  pub break_none : Played found_tree (sized_row (break_row (trees es))) k (Err stops.Broke) k
+  break_none = subst (λ us. Played found_tree (sized_row (break_row (trees us))) k (Err stops.Broke) k) (sym q) (plays_stop (stop spec.Broke) _ (plays_stops spec.Broke k), tt)
+
+  pub continue_none : Played found_tree (sized_row (continue_row (trees es))) k (Err stops.Continued) k
+  continue_none = subst (λ us. Played found_tree (sized_row (continue_row (trees us))) k (Err stops.Continued) k) (sym q) (plays_stop (stop spec.Continued) _ (plays_stops spec.Continued k), tt)
+
+-- ---- rows of another number of elements
+
+pub abort_more : (es : List Stamped) → (length es ≡ 0 → ⊥) → abort_row (trees es) ≡ done None
+abort_more [] n = absurd (n refl)
+abort_more (e ∷ es) n = refl
+
+pub break_more : (es : List Stamped) → (length es ≡ 0 → ⊥) → break_row (trees es) ≡ done None
+break_more [] n = absurd (n refl)
+break_more (e ∷ es) n = refl
+
+pub continue_more : (es : List Stamped) → (length es ≡ 0 → ⊥) → continue_row (trees es) ≡ done None
+continue_more [] n = absurd (n refl)
+continue_more (e ∷ es) n = refl
+
+pub throw_others : (es : List Stamped) → (length es ≡ 1 → ⊥) → (length es ≡ 2 → ⊥) → throw_row (trees es) ≡ done None
+throw_others [] n m = refl
+throw_others (e ∷ []) n m = absurd (n refl)
+throw_others (e ∷ f ∷ []) n m = absurd (m refl)
+throw_others (e ∷ f ∷ d ∷ es) n m = refl
+
+pub catch_others : (es : List Stamped) → (length es ≡ 1 → ⊥) → (length es ≡ 2 → ⊥) → catch_row (trees es) ≡ done None
+catch_others [] n m = refl
+catch_others (e ∷ []) n m = absurd (n refl)
+catch_others (e ∷ f ∷ []) n m = absurd (m refl)
+catch_others (e ∷ f ∷ d ∷ es) n m = refl
+
+pub check_abort_others : (es : List Stamped) → (length es ≡ 2 → ⊥) → check_abort_row (trees es) ≡ done None
+check_abort_others [] m = refl
+check_abort_others (e ∷ []) m = refl
+check_abort_others (e ∷ f ∷ []) m = absurd (m refl)
+check_abort_others (e ∷ f ∷ d ∷ es) m = refl
+
+pub quiet_others : (es : List Stamped) → (length es ≡ 1 → ⊥) → quiet_row (trees es) ≡ done None
+quiet_others [] n = refl
+quiet_others (e ∷ []) n = absurd (n refl)
+quiet_others (e ∷ f ∷ es) n = refl
+
+pub check_others : (es : List Stamped) → (length es ≡ 2 → ⊥) → check_row (trees es) ≡ done None
+check_others [] m = refl
+check_others (e ∷ []) m = refl
+check_others (e ∷ f ∷ []) m = absurd (m refl)
+check_others (e ∷ f ∷ d ∷ es) m = refl

@@ -1,5 +1,5 @@
 -- How evaluations play inside a Quiet or a Check.
-use Rattle.std.proofs.Common.{◌≡◌, ℕ, ◌+◌, ◌-◌, ◌<◌, ◌≤◌, Bool, true, false, ◌||◌, [], ◌∷◌, Option, Some, None, Result, Ok, Err, codes, refl, sym, ap, ap₂, ◌∙◌, subst, arith}
+use Rattle.std.proofs.Common.{◌≡◌, ℕ, List, ◌+◌, ◌-◌, ◌<◌, ◌≤◌, Bool, true, false, ◌||◌, [], ◌∷◌, Option, Some, None, Result, Ok, Err, codes, refl, sym, ap, ap₂, ◌∙◌, subst, arith}
 use Rattle.wl_desk.specs.Desk.{Desk, issued, with_heard, with_quiets}
 use Rattle.wl_expr.specs.Stamped.{Stamped, plain}
 use Rattle.wl_expr.specs.Tree.{Tree}
@@ -15,7 +15,7 @@ use Rattle.wl_eval.specs.Effects.{acted}
 use Rattle.wl_eval.specs.LeftSides.{recursion_limit}
 use Rattle.wl_eval.specs.Eval.{Record, none, ◌then◌, Res, interp, is_budget_end, with_desk, Turns, Eval, Go}
 use Rattle.wl_eval.specs.Endings.{EndsBy, unless_heard, quiet_end, checked_end, quieted, unquieted, unheard, reheard}
-use Rattle.wl_eval.specs.Played.{Plays, PlaysTurns, Played, Ended, TurnsEnd, Notes, Sound, Honest, HonestEnd, is_leaf, end_of, found_tree, state}
+use Rattle.wl_eval.specs.Played.{Plays, PlaysTurns, Played, Ended, TurnsEnd, Notes, Sound, Honest, HonestEnd, is_leaf, end_of, found_tree, state, trees}
 use Rattle.wl_eval.specs.declared.ends.End as ends
 use Rattle.wl_eval.specs.declared.ends.Stop.{Stop}
 use Rattle.wl_eval.specs.declared.ends.Stop.TheVariants as stops
@@ -87,7 +87,7 @@ turns_quietly e k k1 x h y l m =
 pub still_quieted : (t : Tree) (k k1 : Evaluator) (x : End) → PlaysTurns 1 t (entered (quieted k)) x k1 → k1.desk.quiets ≡ k.desk.quiets + 1
 still_quieted t k k1 x m = sym (ap (λ (s : State). s.world.desk.quiets) m.leaves) ∙ Turns-quiets 1 t (state (entered (quieted k)))
 
-pub hushed_is : (k o : Evaluator) (d : Desk) → o ≡ entered k → d ≡ with_quiets (o.desk.quiets + 1) o.desk → record o { desk = d } ≡ entered (quieted k)
+pub hushed_is : (k o : Evaluator) (d : Desk) → o ≡ entered k → d ≡ with_quiets (o.desk.quiets + 1) o.desk → ◌≡◌ {A = Evaluator} (record o { desk = d }) (entered (quieted k))
 hushed_is k o d p q = ap (λ (z : Desk). let y : Evaluator = record o { desk = z } in y) q ∙ ap quieted p
 
 pub quiet_ended : (e : Stamped) (k k1 : Evaluator) (x : ends.End) (d : Desk) → is_leaf e ≡ false → Sound k → k.depth < k.recursion → TurnsEnd 1 (plain e) (entered (quieted k)) (Ok x) k1 → d ≡ with_quiets (k1.desk.quiets - 1) k1.desk
@@ -96,7 +96,7 @@ quiet_ended e k k1 x d h y l m p =
     let n : k1.desk.quiets - 1 ≡ k.desk.quiets = let q = still_quieted (plain e) k k1 (end_of x) m.0 in omega (arith, q) in
     let w : d ≡ with_quiets k.desk.quiets k1.desk = p ∙ ap (λ i. with_quiets i k1.desk) n in
     subst (λ z. EndsBy (quiet_end (plain e)) k (Ok x) (record k1 { depth = k.depth; desk = z })) (sym w)
-    (turns_quietly e k k1 (end_of x) h y l m.0, end_elsewhere k1 _ x refl (end_honest (k1.depth - 1) k1 x m.1))
+    (turns_quietly e k k1 (end_of x) h y l m.0, end_elsewhere k1 (record k1 { depth = k.depth; desk = with_quiets k.desk.quiets k1.desk }) x refl (end_honest (k1.depth - 1) k1 x m.1))
 
 quiet_row_is : (t : Tree) → quiet_row (t ∷ []) ≡ (quiet_end t >>= λ u. passed_on u)
 unfolding quiet_end ◌>>=◌
@@ -106,6 +106,10 @@ pub quiet_row_ended : (t : Tree) (k k1 : Evaluator) (x : ends.End) (r : Result (
 quiet_row_ended t k k1 x r h m =
     subst (λ p. Played found_tree (sized_row p) k r k1) (sym (quiet_row_is t))
     (row_end (quiet_end t) (λ u. passed_on u) k k1 (end_of x) (end_of x) r k1 h.0 (λ q. ap (λ u. passed_on u) q ∙ budget_stops (λ v. result v)) (m h.1))
+
+pub quiet_one : (k k1 : Evaluator) (es : List Stamped) (e : Stamped) (x : ends.End) (r : Result (Option Stamped) Stop) → es ≡ e ∷ [] → EndsBy (quiet_end (plain e)) k (Ok x) k1
+    → (HonestEnd k1 x → Played found_tree (sized_row (passed_on (end_of x))) k1 r k1) → Played found_tree (sized_row (quiet_row (trees es))) k r k1
+quiet_one k k1 es e x r q h m = subst (λ us. Played found_tree (sized_row (quiet_row (trees us))) k r k1) (sym q) (quiet_row_ended (plain e) k k1 x r h m)
 
 pub ends_exit : (q : Prog (Option Tree)) (p : Prog End) (k k1 : Evaluator) (r : Result (Option Stamped) Stop) (d s : Stop) → r ≡ Err d → d ≡ s → EndsBy p k (Err s) k1 → Played found_tree q k r k1
 ends_exit q p k k1 r d stops.Memory a b h = subst (λ z. Played found_tree q k z k1) (sym (a ∙ ap Err b)) tt
@@ -177,3 +181,8 @@ check_row_ended t f k k1 x d r g h p m =
     (row_end (checked_end t) (λ a. unless_heard (plain f) a) k k2 (end_of x, k1.desk.heard) (end_of x) r k2 (plays_checked t k k1 (end_of x) (is_budget_end (end_of x)) h.0)
     (λ q. ap (λ z. unless_heard (plain f) (z, k1.desk.heard)) q ∙ budget_stops (λ v. result (elim k1.desk.heard [ true ↦ plain f | false ↦ v ])))
     (m k2 (end_elsewhere k1 k2 x refl (end_honest k1.depth k1 x h.1)) (later h.0 f g))))
+
+pub check_two : (k k1 : Evaluator) (es : List Stamped) (e f : Stamped) (x : ends.End) (d : Desk) (r : Result (Option Stamped) Stop) → es ≡ e ∷ f ∷ [] → Honest k f → Ended (plain e) (unheard k) (Ok x) k1
+    → d ≡ with_heard (k.desk.heard || k1.desk.heard) k1.desk → ((k2 : Evaluator) → HonestEnd k2 x → Honest k2 f → Played found_tree (sized_row (unless_heard (plain f) (end_of x, k1.desk.heard))) k2 r k2)
+    → Played found_tree (sized_row (check_row (trees es))) k r (record k1 { desk = d })
+check_two k k1 es e f x d r q g h p m = subst (λ us. Played found_tree (sized_row (check_row (trees us))) k r (record k1 { desk = d })) (sym q) (check_row_ended (plain e) f k k1 x d r g h p m)

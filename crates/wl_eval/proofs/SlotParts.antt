@@ -4,7 +4,7 @@ use Rattle.std.proofs.lemmas.Bool.{le-leb, lt-leb}
 use Rattle.std.proofs.lemmas.Option.{slice_get_past, slice_get-get_or}
 use Rattle.std.specs.List.{drop-map}
 use Rattle.std.proofs.Math.Seq.{take-suc}
-use Rattle.std.proofs.lemmas.List.{map-append, get_or-map, length-map}
+use Rattle.std.proofs.lemmas.List.{map-append, take-map, get_or-map, length-map}
 use Rattle.std.specs.List.{list_all}
 use Rattle.std.proofs.lemmas.List.Elements.{All-cons, All-head, All-push, All-tail}
 use Rattle.std.proofs.lemmas.Result.{err_from_is_err_and}
@@ -22,7 +22,7 @@ use Rattle.wl_expr.specs.Stamped as stamped
 use Rattle.wl_expr.specs.Stamped.{Stamped, plain, plains, from_list}
 use Rattle.wl_expr.specs.Tree as tree
 use Rattle.wl_expr.specs.Tree.{Tree, Trees, num, text, symbol, node, none, more, to_list, IsWithinLimits, AreSmall}
-use Rattle.wl_expr.specs.Words.{Name, applied, count_of, sequence_of, is_the, is_list, elements, name_of, names_of, with_first}
+use Rattle.wl_expr.specs.Words.{Name, applied, count_of, sequence_of, is_form, is_the, is_list, elements, name_of, names_of, with_first}
 use Rattle.wl_shape.specs.Answers.{AllFrom}
 use Rattle.wl_shape.specs.Elements.{is_name}
 use Rattle.wl_shape.specs.Fill as fill
@@ -38,7 +38,7 @@ use Rattle.wl_eval.specs.declared.ends.Stop.{Stop}
 use Rattle.wl_eval.proofs.Answering.{beyond, from_honest, row_large}
 use Rattle.wl_eval.proofs.Playing.{plays_done, plays_done_is}
 use Rattle.wl_eval.proofs.RowParts.{row_gives, row_stays}
-use Rattle.wl_eval.specs.ScopeRows.{function_applied, is_inner, slot, slots_from, slot_of, with_slots, with_slots_in, with_names}
+use Rattle.wl_eval.specs.ScopeRows.{function_applied, function_by, is_inner, slot, slots_from, slot_of, with_slots, with_slots_in, with_names}
 use Rattle.wl_eval.specs.Slots.{IsGiven, new_or}
 
 -- ---- names
@@ -64,7 +64,7 @@ are_names (node g us ∷ ts) h = absurd (cc)
 
 names_by : (b : Bool) (t : Tree) (ts : List Tree) → name_of t ≡ None → ◌≡◌ {A = Option (List Name)} (elim b [ true ↦ names_of ts | false ↦ None ]) (names_of (elim b [ true ↦ ts | false ↦ t ∷ [] ]))
 names_by true t ts e = refl
-names_by false t ts e = sym (ap (λ o. with_first o (Some [])) e ∙ refl)
+names_by false t ts e = sym (ap (λ o. with_first o (Some [])) e)
 
 pub listed_names : (t : Tree) → function_names t ≡ names_of (listed t)
 listed_names (symbol x) = refl
@@ -109,10 +109,21 @@ no_function_names t b ts h = sym (ap (λ o. with_names b o ts) (listed_names t) 
     unnamed None e = refl
     unnamed (Some xs) e = absurd (cc)
 
+-- the values of as many names as there are
+pub taken_trees : (es ds ns : List Stamped) (ls : List Tree) → ds ≡ take (length ns) es → trees ns ≡ ls → trees ds ≡ take (length ls) (trees es)
+taken_trees es ds ns ls p q = ap trees p ∙ sym (take-map plain (length ns) es) ∙ ap (λ m. take m (trees es)) (sym (length-map ns plain) ∙ ap length q)
+
+pub names_filled : (t b : Tree) (es ds ns : List Stamped) → is_some (names_of (listed t)) ≡ true → trees ns ≡ listed t → ds ≡ take (length ns) es → length ns ≤ length es
+    → Some (fill.replace b (names_in (trees ns)) (trees ds)) ≡ with_names b (function_names t) (trees es)
+names_filled t b es ds ns h q p l =
+    let m : length ns ≡ length (listed t) = sym (length-map ns plain) ∙ ap length q in
+    let n : length (trees es) ≡ length es = length-map es plain in
+    ap (λ us. Some (fill.replace b (names_in us) (trees ds))) q ∙ enough_names t b (trees es) (trees ds) h (taken_trees es ds ns (listed t) p q) (omega (arith, l, m, n))
+
 -- ---- slots
 
 module _ (f : Tree) (args : List Tree) (h : Tree) (ts : Trees) where
-  by_inner : Bool → Tree
+  abbrev by_inner : Bool → Tree
   by_inner b =
       elim b [
         | true ↦ node h ts
@@ -122,7 +133,7 @@ module _ (f : Tree) (args : List Tree) (h : Tree) (ts : Trees) where
   pub inner_stays : is_inner h (to_list ts) ≡ true → with_slots f args (node h ts) ≡ node h ts
   inner_stays e = ap by_inner e
 
-  by_slot : Option Tree → Tree
+  abbrev by_slot : Option Tree → Tree
   by_slot o = elim o [ Some u ↦ u | None ↦ node (with_slots f args h) (with_slots_in f args ts) ]
 
   pub slot_stands : (u : Tree) → is_inner h (to_list ts) ≡ false → slot_of f args (node h ts) h (to_list ts) ≡ Some u → with_slots f args (node h ts) ≡ u
@@ -137,7 +148,7 @@ slots_in_each f args (e ∷ es) = ap (λ us. more (with_slots f args (plain e)) 
 
 -- which slot a node is
 module _ (f t h e : Tree) (args : List Tree) (o : Option ℕ) (c : o ≡ count_of e) where
-  slot_by : Bool → Bool → Option Tree
+  abbrev slot_by : Bool → Bool → Option Tree
   slot_by a b = elim a [ true ↦ option_map (slot f args t) (count_of e) | false ↦ elim b [ true ↦ option_map (slots_from args t) (count_of e) | false ↦ None ] ]
 
   pub one_slot : is_the (codes "Slot") h ≡ true → option_map (slot f args t) o ≡ slot_of f args t h (e ∷ [])
@@ -145,6 +156,18 @@ module _ (f t h e : Tree) (args : List Tree) (o : Option ℕ) (c : o ≡ count_o
 
   pub slots_on : is_the (codes "Slot") h ≡ false → is_the (codes "SlotSequence") h ≡ true → option_map (slots_from args t) o ≡ slot_of f args t h (e ∷ [])
   slots_on p q = ap (option_map (slots_from args t)) c ∙ sym (ap₂ slot_by p q)
+
+module _ (f t : Tree) (args : List Tree) where
+  abbrev counted_by : Option ℕ → Bool → Bool → Option Tree
+  counted_by o a b = elim a [ true ↦ option_map (slot f args t) o | false ↦ elim b [ true ↦ option_map (slots_from args t) o | false ↦ None ] ]
+
+  none_counted : (a b : Bool) → None ≡ counted_by None a b
+  none_counted true b = refl
+  none_counted false true = refl
+  none_counted false false = refl
+
+  pub no_count : (h e : Tree) → None ≡ count_of e → None ≡ slot_of f args t h (e ∷ [])
+  no_count h e c = none_counted (is_the (codes "Slot") h) (is_the (codes "SlotSequence") h) ∙ ap (λ o. counted_by o (is_the (codes "Slot") h) (is_the (codes "SlotSequence") h)) c
 
 pub neither_slot : (f t h e : Tree) (args : List Tree) → is_the (codes "Slot") h ≡ false → is_the (codes "SlotSequence") h ≡ false → None ≡ slot_of f args t h (e ∷ [])
 neither_slot f t h e args p q = sym (ap₂ (slot_by f t h e args (count_of e) refl) p q)
@@ -200,13 +223,17 @@ pub new_or_none : (xs es : List Stamped) → length xs ≡ 0 → new_or xs es �
 new_or_none [] es n = refl
 new_or_none (x ∷ xs) es n = absurd (omega arith)
 
+pub plain_or : (o : Option Stamped) (e : Stamped) → plain (unwrap_or o e) ≡ unwrap_or (option_map plain o) (plain e)
+plain_or None e = refl
+plain_or (Some n) e = refl
+
 -- one more
-pub put_more : (g : Tree → Tree) (es all after : List Stamped) (k : ℕ) (e x : Stamped) → k < length es → e ≡ get_or es k e → plain x ≡ g (plain e)
-    → new_or after (take k es ++ e ∷ []) ≡ new_or all (take k es) ++ x ∷ [] → trees (new_or all (take k es)) ≡ map g (trees (take k es)) → trees (new_or after (take (k + 1) es)) ≡ map g (trees (take (k + 1) es))
-put_more g es all after k e x l p m a v =
+pub put_more : (g : Tree → Tree) (es all after : List Stamped) (k : ℕ) (e : Stamped) (o : Option Stamped) → k < length es → e ≡ get_or es k e → unwrap_or (option_map plain o) (plain e) ≡ g (plain e)
+    → new_or after (take k es ++ e ∷ []) ≡ new_or all (take k es) ++ unwrap_or o e ∷ [] → trees (new_or all (take k es)) ≡ map g (trees (take k es)) → trees (new_or after (take (k + 1) es)) ≡ map g (trees (take (k + 1) es))
+put_more g es all after k e o l p m a v =
     let t : take (k + 1) es ≡ take k es ++ e ∷ [] = ap (λ n. take n es) (add-one k) ∙ take-suc es k e l ∙ ap (λ y. take k es ++ y ∷ []) (sym p) in
     let w : map g (trees (take k es ++ e ∷ [])) ≡ map g (trees (take k es)) ++ g (plain e) ∷ [] = ap (map g) (map-append plain (take k es) (e ∷ [])) ∙ map-append g (trees (take k es)) (plain e ∷ []) in
-    ap (λ us. trees (new_or after us)) t ∙ ap trees a ∙ map-append plain (new_or all (take k es)) (x ∷ []) ∙ ap₂ (λ us y. us ++ y ∷ []) v m ∙ sym (ap (λ us. map g (trees us)) t ∙ w)
+    ap (λ us. trees (new_or after us)) t ∙ ap trees a ∙ map-append plain (new_or all (take k es)) (unwrap_or o e ∷ []) ∙ ap₂ (λ us y. us ++ y ∷ []) v (plain_or o e ∙ m) ∙ sym (ap (λ us. map g (trees us)) t ∙ w)
 
 -- each fits where all do
 pub each_small : (g : Tree → Tree) (es : List Stamped) (k : ℕ) (e : Stamped) → k < length es → e ≡ get_or es k e → AreSmall (tree.from_list (map g (trees es))) → IsWithinLimits (g (plain e))
@@ -275,10 +302,6 @@ module _ (f : Tree) (args : List Tree) (h : Tree) (es : List Stamped) (e : Tree)
       ap (with_slots f args) (sym q) ∙ no_slot f args h (plains (from_list es)) (inner_by false i) (slot_at None s)
       ∙ ap (node (with_slots f args h)) (slots_in_each f args es)
 
-plain_or : (o : Option Stamped) (e : Stamped) → plain (unwrap_or o e) ≡ unwrap_or (option_map plain o) (plain e)
-plain_or None e = refl
-plain_or (Some n) e = refl
-
 pub rebuilt_case : (f : Tree) (args : List Tree) (h : Stamped) (es : List Stamped) (e : Tree) (new : Option Stamped) (ns : List Stamped) (r : Result (Option Stamped) ExprFault) → node (plain h) (plains (from_list es)) ≡ e
     → with_slots f args e ≡ node (with_slots f args (plain h)) (tree.from_list (map (with_slots f args) (trees es))) → unwrap_or (option_map plain new) (plain h) ≡ with_slots f args (plain h) → trees (new_or ns es) ≡ map (with_slots f args) (trees es)
     → IsRenewed (applied (plain h) (trees es)) (applied (plain (unwrap_or new h)) (trees (new_or ns es))) r → IsRenewed e (with_slots f args e) r
@@ -317,3 +340,42 @@ built_in-function (num n) ts t q f = ap built_in (sym q) ∙ ap (λ us. sized_ro
 built_in-function (text s) ts t q f = ap built_in (sym q) ∙ ap (λ us. sized_row (done (function_applied (text s) us))) (tree.to_list_from_list ts)
 built_in-function (symbol x) ts t q f = absurd (f x refl)
 built_in-function (node g vs) ts t q f = ap built_in (sym q) ∙ ap (λ us. sized_row (done (function_applied (node g vs) us))) (tree.to_list_from_list ts)
+
+-- ---- the parts of a Function
+
+pub no_function : (t : Tree) (args : List Tree) → ((h : Tree) (ts : Trees) → t ≡ node h ts → ⊥) → None ≡ function_applied t args
+no_function (num n) args g = refl
+no_function (text s) args g = refl
+no_function (symbol x) args g = refl
+no_function (node h ts) args g = absurd (g h ts refl)
+
+module _ (t h : Tree) (es : List Stamped) (args : List Tree) (q : node h (plains (from_list es)) ≡ t) where
+  abbrev applied_if : Bool → Option Tree
+  applied_if b = elim b [ true ↦ function_by t (elements t) args | false ↦ None ]
+
+  pub other_form : is_the (codes "Function") h ≡ false → None ≡ function_applied t args
+  other_form i = sym (ap applied_if (ap (is_form (codes "Function")) (sym q) ∙ i))
+
+  by_parts : is_the (codes "Function") h ≡ true → function_applied t args ≡ function_by t (trees es) args
+  by_parts i =
+      ap applied_if (ap (is_form (codes "Function")) (sym q) ∙ i)
+      ∙ ap (λ us. function_by t us args) (ap elements (sym q) ∙ list_of_plains es)
+
+  pub one_part : (b : Stamped) → is_the (codes "Function") h ≡ true → es ≡ b ∷ [] → Some (with_slots t args (plain b)) ≡ function_applied t args
+  one_part b i p = sym (by_parts i ∙ ap (λ us. function_by t (trees us) args) p)
+
+  pub two_parts : (x b : Stamped) → is_the (codes "Function") h ≡ true → es ≡ x ∷ b ∷ [] → with_names (plain b) (function_names (plain x)) args ≡ function_applied t args
+  two_parts x b i p = sym (by_parts i ∙ ap (λ us. function_by t (trees us) args) p)
+
+  pub other_parts : is_the (codes "Function") h ≡ true → (length es ≡ 1 → ⊥) → (length es ≡ 2 → ⊥) → None ≡ function_applied t args
+  other_parts i n m = sym (by_parts i ∙ none_by es n m)
+    where
+      none_by : (us : List Stamped) → (length us ≡ 1 → ⊥) → (length us ≡ 2 → ⊥) → function_by t (trees us) args ≡ None
+      none_by [] n m = refl
+      none_by (a ∷ []) n m = absurd (n refl)
+      none_by (a ∷ b ∷ []) n m = absurd (m refl)
+      none_by (a ∷ b ∷ d ∷ us) n m = refl
+
+-- the body, where no slot is replaced in it
+pub body_given : (b : Stamped) (o : Option Stamped) (e : Stamped) (u : Tree) (v : Option Tree) → unwrap_or (option_map plain o) (plain b) ≡ u → Some u ≡ v → e ≡ unwrap_or o b → Some (plain e) ≡ v
+body_given b o e u v p q r = ap (λ x. Some (plain x)) r ∙ ap Some (plain_or o b ∙ p) ∙ q

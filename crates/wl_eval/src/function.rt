@@ -56,17 +56,12 @@ fn slot_in(head: &Expr, elements: &[Expr]) -> Option<Slot>
     let [e] = elements else {
         return None;
     };
+    let n = count(e)?;
     if is_symbol(head, "Slot") {
-        return match count(e) {
-            Some(n) => Some(Slot::One(n)),
-            None => None,
-        };
+        return Some(Slot::One(n));
     }
     if is_symbol(head, "SlotSequence") {
-        return match count(e) {
-            Some(n) => Some(Slot::From(n)),
-            None => None,
-        };
+        return Some(Slot::From(n));
     }
     None
 }
@@ -123,6 +118,7 @@ fn standing(alloc: Global, f: &Expr, args: &[Expr], slot: Slot) -> Result<Option
 }
 
 /// Begins with those that stood before, where none is new yet.
+#[tactic(auto, using(crate::proofs::SlotParts::new_or_none, crate::proofs::SlotParts::new_or_some))]
 fn begin(alloc: Global, all: &mut Vec<Expr>, before: &[Expr]) -> Result<(), Memory>
     ensures { OnOk result (all.new.items ≡ new_or all.old.items before.now) }
 {
@@ -133,6 +129,7 @@ fn begin(alloc: Global, all: &mut Vec<Expr>, before: &[Expr]) -> Result<(), Memo
 }
 
 /// Puts an element behind those before it, once one is new.
+#[tactic(auto, using(crate::proofs::SlotParts::new_or_none, crate::proofs::SlotParts::new_or_some, crate::proofs::SlotParts::new_or_push))]
 fn put(
     alloc: Global,
     all: &mut Vec<Expr>,
@@ -219,8 +216,9 @@ fn with_slots_in(
 {
     let mut all = Vec::new(alloc);
     for k in 0..elements.len() {
-        let new = with_slots(alloc, f, args, &elements[k])?;
-        put(alloc, &mut all, &elements[..k], &elements[k], new)?;
+        let e = &elements[k];
+        let new = with_slots(alloc, f, args, e)?;
+        put(alloc, &mut all, &elements[..k], e, new)?;
     }
     Ok(all)
 }
@@ -236,10 +234,15 @@ fn with_names(
     ensures passed { (ms : List Stamped) → IsFrom ms body.now → AllFrom ms args.now → IfOk result (λ o. IfSome o (IsFrom ms)) }
 {
     let names = listed(first);
-    if !are_symbols(names) || names.len() > args.len() {
+    if !are_symbols(names) {
         return Ok(None);
     }
-    Ok(Some(replace(alloc, body, names, &args[..names.len()])?))
+    if names.len() > args.len() {
+        return Ok(None);
+    }
+    let values = &args[..names.len()];
+    let filled = replace(alloc, body, names, values)?;
+    Ok(Some(filled))
 }
 
 /// What a Function gives of these arguments, where it gives something.
