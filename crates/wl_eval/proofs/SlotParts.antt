@@ -310,6 +310,13 @@ rebuilt_case f args h es e new ns r q w p m x =
     let b : applied (plain (unwrap_or new h)) (trees (new_or ns es)) ≡ with_slots f args e = ap₂ (λ y us. node y (tree.from_list us)) (plain_or new h ∙ p) m ∙ sym w in
     subst (λ z. IsRenewed z (with_slots f args e) r) a (subst (λ y. IsRenewed (applied (plain h) (trees es)) y r) b x)
 
+-- a node that is built
+pub node_renewed : (t h : Tree) (es : List Stamped) (e : Stamped) → plain e ≡ node h (plains (from_list es)) → IsRenewed t (applied h (trees es)) (Ok (Some e))
+node_renewed t h es e q = record { tree = q ∙ ap (node h) (plains_from_list es); large = λ l. cc }
+
+pub node_too_large : (t h : Tree) (es : List Stamped) (d : ExprFault) (made : Result Stamped ExprFault) (r : Result (Option Stamped) ExprFault) → made ≡ Err d → IsErrAnd r (λ y. y ≡ d) → (made ≡ Err fault.Large → ¬ IsWithinLimits (node h (plains (from_list es)))) → IsRenewed t (applied h (trees es)) r
+node_too_large t h es d made r b w l = fault_renewed t (applied h (trees es)) d made r b w (λ q f. l q (subst IsWithinLimits (ap (node h) (sym (plains_from_list es))) f))
+
 -- ---- the row
 
 -- what can't be given

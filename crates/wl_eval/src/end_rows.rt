@@ -56,11 +56,16 @@ fn after_abort(end: End, other: &Expr) -> Result<Option<Expr>, Stop>
 pub(crate) fn throw_row(args: &[Expr]) -> Result<Option<Expr>, Stop>
     ensures { (k : Kernel) → AllHonest k args.now → Played found_tree (sized_row (rows.throw_row (trees args.now))) k result k }
 {
-    match args {
-        [v] => Err(Stop::Thrown(v.copy()?, None)),
-        [v, tag] => Err(Stop::Thrown(v.copy()?, Some(tag.copy()?))),
-        _ => Ok(None),
+    if args.len() == 1 {
+        let v = args[0].copy()?;
+        return Err(Stop::Thrown(v, None));
     }
+    if args.len() == 2 {
+        let v = args[0].copy()?;
+        let tag = args[1].copy()?;
+        return Err(Stop::Thrown(v, Some(tag)));
+    }
+    Ok(None)
 }
 
 pub(crate) fn abort_row(args: &[Expr]) -> Result<Option<Expr>, Stop>
@@ -102,17 +107,15 @@ impl Evaluator {
         ensures played { Played found_tree (sized_row (rows.catch_row (trees args.now))) self.old result self.new }
         ensures falls { self.new.steps ≤ self.old.steps }
     {
-        match args {
-            [e] => {
-                let end = self.evaluate(e.copy()?, work)?;
-                caught(end)
-            }
-            [e, pattern] => {
-                let end = self.evaluate(e.copy()?, work)?;
-                self.catch_tagged(pattern, end, work)
-            }
-            _ => Ok(None),
+        if args.len() == 1 {
+            let end = self.evaluate(args[0].copy()?, work)?;
+            return caught(end);
         }
+        if args.len() == 2 {
+            let end = self.evaluate(args[0].copy()?, work)?;
+            return self.catch_tagged(&args[1], end, work);
+        }
+        Ok(None)
     }
 
     /// What a Catch with a tag's pattern gives of an end.

@@ -1,5 +1,5 @@
 //! What a Function gives of its arguments.
-ghost use Rattle.std.specs.Prelude.{◌≡◌, ◌∷◌, ◌++◌, [], IfOk, IfSome, List, OnOk, option_map, unwrap_or, map};
+ghost use Rattle.std.specs.Prelude.{◌≡◌, ◌∷◌, ◌++◌, [], IfOk, IfSome, List, Some, OnOk, option_map, unwrap_or, map};
 ghost use Rattle.std.specs.List.{list_all};
 ghost use Rattle.wl_expr.specs.Passed.{IsFrom};
 ghost use Rattle.wl_expr.specs.Stamped.{Stamped, plain, plains, from_list};
@@ -155,6 +155,14 @@ fn put(
     }
 }
 
+/// The new elements, or those that there were where none is new.
+#[tactic(auto, using(crate::proofs::SlotParts::new_or_none, crate::proofs::SlotParts::new_or_some))]
+fn new_or<'a>(new: &'a [Expr], elements: &'a [Expr]) -> &'a [Expr]
+    ensures { result.now ≡ new_or new.now elements.now }
+{
+    if new.is_empty() { elements } else { new }
+}
+
 /// The node of what is new and of what stays; None where all stays.
 fn rebuilt(
     alloc: Global,
@@ -168,14 +176,14 @@ fn rebuilt(
     ensures passed { (ms : List Stamped) → IsFrom ms (unwrap_or new_head head.now) → AllFrom ms (new_or new.now elements.now)
         → IfOk result (λ o. IfSome o (IsFrom ms)) }
 {
-    let elements = if new.is_empty() { elements } else { new };
+    let all = new_or(new, elements);
     match new_head {
-        Some(head) => Ok(Some(Expr::node(alloc, &head, elements)?)),
+        Some(head) => Ok(Some(Expr::node(alloc, &head, all)?)),
         None => {
             if new.is_empty() {
                 return Ok(None);
             }
-            Ok(Some(Expr::node(alloc, head, elements)?))
+            Ok(Some(Expr::node(alloc, head, all)?))
         }
     }
 }
@@ -223,6 +231,22 @@ fn with_slots_in(
     Ok(all)
 }
 
+/// The body with the arguments in the place of its slots.
+fn with_arguments(
+    alloc: Global,
+    f: &Expr,
+    args: &[Expr],
+    body: &Expr,
+) -> Result<Option<Expr>, ExprFault>
+    ensures made { IsGiven (Some (with_slots (plain f.now) (trees args.now) (plain body.now))) result }
+    ensures passed { (ms : List Stamped) → IsFrom ms f.now → AllFrom ms args.now → IsFrom ms body.now → IfOk result (λ o. IfSome o (IsFrom ms)) }
+{
+    match with_slots(alloc, f, args, body)? {
+        Some(e) => Ok(Some(e)),
+        None => Ok(Some(body.copy()?)),
+    }
+}
+
 /// The body with the arguments in the place of the names `x` or `{x, y}`, where there are enough.
 fn with_names(
     alloc: Global,
@@ -256,14 +280,13 @@ fn function_applied(alloc: Global, f: &Expr, args: &[Expr]) -> Result<Option<Exp
     if !is_symbol(head, "Function") {
         return Ok(None);
     }
-    match parts {
-        [body] => match with_slots(alloc, f, args, body)? {
-            Some(e) => Ok(Some(e)),
-            None => Ok(Some(body.copy()?)),
-        },
-        [first, body] => with_names(alloc, first, body, args),
-        _ => Ok(None),
+    if parts.len() == 1 {
+        return with_arguments(alloc, f, args, &parts[0]);
     }
+    if parts.len() == 2 {
+        return with_names(alloc, &parts[0], &parts[1], args);
+    }
+    Ok(None)
 }
 
 impl Evaluator {

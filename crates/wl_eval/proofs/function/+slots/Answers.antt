@@ -34,7 +34,7 @@ with_slots-returns-in-Some-clause-made t c =
     let args = trees c.args.args.now in
     let e = plain c.args.e.now in
     subst (λ z. IsRenewed e z c.standing.result)
-    (slot_case f args (plain c.in-Node.head.now) c.in-Node.elements.now e (slot_value f args e c.in-Some.slot) c.in-Node.ensures.plain (sym c.is_inner.ensures ∙ c.if-is_inner.false)
+    (slot_case f args (plain c.in-Node.head.now) c.in-Node.elements.now e c.in-Node.ensures.plain (slot_value f args e c.in-Some.slot) (sym c.is_inner.ensures ∙ c.if-is_inner.false)
     (ap (option_map (slot_value f args e)) (sym c.in-Some.is) ∙ c.slot_in.ensures f e args))
     (c.standing.ensures.made e)
 

@@ -20,3 +20,28 @@ returns-then-not-is_symbol-clause-made c = record {
   tree = other_form (plain c.args.f.now) (plain c.in-Node.head.now) c.in-Node.parts.now (trees c.args.args.now) c.in-Node.ensures.plain (sym c.is_symbol.ensures ∙ c.if-not-is_symbol.true);
   large = λ l. cc;
 }
+
+pub returns-then-parts-eq1-clause-made : goal.returns-then-parts-eq1-clause-made
+returns-then-parts-eq1-clause-made c =
+    let t = plain c.args.f.now in
+    let es = c.in-Node.parts.now in
+    let b = c.index-parts-0.result in
+    subst (λ o. IsGiven o c.with_arguments.result)
+    (one_part t (plain c.in-Node.head.now) es (trees c.args.args.now) c.in-Node.ensures.plain b (sym c.is_symbol.ensures ∙ c.if-not-is_symbol.false) (one_item es b (omega (arith, c.if-parts-eq1.true)) c.index-parts-0.is))
+    c.with_arguments.ensures.made
+
+pub returns-then-parts-eq2-clause-made : goal.returns-then-parts-eq2-clause-made
+returns-then-parts-eq2-clause-made c =
+    let t = plain c.args.f.now in
+    let es = c.in-Node.parts.now in
+    let a = c.index-parts-0-then-parts-eq2.result in
+    let b = c.index-parts-1.result in
+    subst (λ o. IsGiven o c.with_names.result)
+    (two_parts t (plain c.in-Node.head.now) es (trees c.args.args.now) c.in-Node.ensures.plain a b (sym c.is_symbol.ensures ∙ c.if-not-is_symbol.false) (two_items es a b (omega (arith, c.if-parts-eq2.true)) c.index-parts-0-then-parts-eq2.is c.index-parts-1.is))
+    c.with_names.ensures.made
+
+pub returns-clause-made : goal.returns-clause-made
+returns-clause-made c = record {
+  tree = other_parts (plain c.args.f.now) (plain c.in-Node.head.now) c.in-Node.parts.now (trees c.args.args.now) c.in-Node.ensures.plain (sym c.is_symbol.ensures ∙ c.if-not-is_symbol.false) (λ e. omega (arith, e, c.if-parts-eq1.false)) (λ e. omega (arith, e, c.if-parts-eq2.false));
+  large = λ l. cc;
+}

@@ -1143,13 +1143,13 @@ check_row-returns-clause-played g t c =
     check_two k k1 c.args.args.now e f x c.set_heard-2.new.self c.unless_heard.result es h w (c.set_heard-2.ensures ∙ ap₂ (λ a b. with_heard (a || b) k1.desk) c.heard-before.ensures c.heard-heard.ensures)
     (λ k2 y z. subst (λ b. Played found_tree (sized_row (unless_heard (plain f) (end_of x, b))) k2 c.unless_heard.result k2) c.heard-heard.ensures (c.unless_heard.ensures k2 y z))
 
-pub catch_row-returns-in-len1-clause-played : goal.catch_row-returns-in-len1-clause-played
-catch_row-returns-in-len1-clause-played g t c =
+pub catch_row-returns-then-args-eq1-clause-played : goal.catch_row-returns-then-args-eq1-clause-played
+catch_row-returns-then-args-eq1-clause-played g t c =
     let k = c.args.self.now in
     let k1 = c.evaluate.new.self in
-    let e = c.e-item.result in
+    let e = c.index-args-0.result in
     let x = c.in_ok-end.end in
-    let es : c.args.args.now ≡ e ∷ [] = search (rules, one_item) in
+    let es : c.args.args.now ≡ e ∷ [] = one_item c.args.args.now e (omega (arith, c.if-args-eq1.true)) c.index-args-0.is in
     catch_one k k1 c.args.args.now e x c.caught.result es (subst (λ (z : Stamped). Ended (plain z) k (Ok x) k1) c.in_ok-copy.ensures c.in_ok-end.ensures.played) (c.caught.ensures k1)
 
 pub check_abort_row-returns-clause-played : goal.check_abort_row-returns-clause-played
