@@ -57,3 +57,6 @@ mod LocalParts
 mod ScopingParts
 mod ScopeRowParts
 mod GuardParts
+mod Hushing
+mod Catching
+mod SlotParts

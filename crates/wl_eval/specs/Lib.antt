@@ -40,6 +40,8 @@ pub mod Replacing
 pub mod Replies
 pub mod LocalNames
 pub mod Guards
+pub mod Slots
+pub mod Endings
 -- Sessions that are computed.
 pub mod Cells
 pub mod WorkedCells

@@ -9,7 +9,7 @@ ghost use Rattle.wl_eval.specs.Parts.{Answers, HonestApplied, sized_row};
 ghost use Rattle.wl_eval.specs.Played.{AllHonest, Honest, Played, Plays, Sound, found_tree, trees};
 ghost use Rattle.wl_eval.specs.PureRows as pure;
 
-use crate::elements::is_form;
+use crate::end_rows::{abort_row, break_row, continue_row, throw_row};
 use crate::ends::Stop;
 use crate::evaluator::Evaluator;
 use crate::kind::Kind;
@@ -48,11 +48,7 @@ impl Evaluator {
         if let Look::Symbol(name) = head.view() {
             return self.row(name, args, work);
         }
-        // Functions come here.
-        if is_form(head, "Function") {
-            return Err(Stop::Memory);
-        }
-        Ok(None)
+        self.function_row(head, args, work)
     }
 
     /// The result of the row of a name, where it has one.
@@ -129,14 +125,6 @@ impl Evaluator {
             Kind::ClearAttributes => self.clear_attributes_row(args, work),
             Kind::Protect => self.protect_row(args, work),
             Kind::Unprotect => self.unprotect_row(args, work),
-            Kind::Print => self.print_row(args),
-            Kind::Message => self.message_row(args, work),
-            Kind::Off => self.off_row(args),
-            Kind::On => self.on_row(args),
-            Kind::MessageName => self.message_name_row(args, work),
-            Kind::Out => self.out_row(args),
-            Kind::In => self.in_row(args),
-            // The other rows come here.
             Kind::MatchQ => self.match_row(args, work),
             Kind::MemberQ => self.member_row(args, work),
             Kind::Count => self.count_row(args, work),
@@ -146,8 +134,24 @@ impl Evaluator {
             Kind::Replace => self.replace_row(args, work),
             Kind::ReplaceAll => self.replace_all_row(args, work),
             Kind::ReplaceRepeated => self.replace_repeated_row(args, work),
-            // The others come here.
-            _ => Err(Stop::Memory),
+            Kind::Module => self.module_row(args, work),
+            Kind::With => self.with_row(args, work),
+            Kind::Block => self.block_row(args, work),
+            Kind::Throw => throw_row(args),
+            Kind::Catch => self.catch_row(args, work),
+            Kind::Abort => abort_row(args),
+            Kind::CheckAbort => self.check_abort_row(args, work),
+            Kind::Break => break_row(args),
+            Kind::Continue => continue_row(args),
+            Kind::Print => self.print_row(args),
+            Kind::Message => self.message_row(args, work),
+            Kind::Off => self.off_row(args),
+            Kind::On => self.on_row(args),
+            Kind::MessageName => self.message_name_row(args, work),
+            Kind::Quiet => self.quiet_row(args, work),
+            Kind::Check => self.check_row(args, work),
+            Kind::Out => self.out_row(args),
+            Kind::In => self.in_row(args),
         }
     }
 

@@ -11,7 +11,7 @@ use wl_expr::{Expr, ExprFault, Look};
 use wl_ports::{Ledger, Work};
 
 /// Whether the expression is a number or a text.
-fn is_leaf(e: &Expr) -> bool
+pub(crate) fn is_leaf(e: &Expr) -> bool
     ensures { result ≡ is_leaf e.now }
 {
     match e.view() {
@@ -47,7 +47,7 @@ impl Evaluator {
 
     /// The turns of an evaluation, from the first one on.
     #[cycle(eval)]
-    fn turns<L: Ledger>(&mut self, first: Expr, work: &mut Work<L>) -> Result<End, Stop>
+    pub(crate) fn turns<L: Ledger>(&mut self, first: Expr, work: &mut Work<L>) -> Result<End, Stop>
         requires sound { Sound self.old }
         requires honest { Honest self.old first }
         ensures played { TurnsEnd 1 (plain first) self.old result self.new }

@@ -1,5 +1,6 @@
 //! Messages and shown items, and what is too large.
 ghost use Rattle.std.specs.Prelude.{◌≡◌, IfOk, Ok, [], ◌∷◌, false, codes};
+ghost use Rattle.wl_expr.specs.Stamped.{plain};
 ghost use Rattle.wl_expr.specs.Tree.{Tree};
 ghost use Rattle.wl_expr.specs.Words.{natural};
 ghost use Rattle.wl_eval.specs.LeftSides.{recursion_limit, iteration_limit};
@@ -8,9 +9,21 @@ ghost use Rattle.wl_eval.specs.Prog as prog;
 
 use crate::ends::Stop;
 use crate::evaluator::Evaluator;
+use std::alloc::Global;
+use std::slice;
 use wl_exact::Num;
 use wl_expr::{Expr, ExprFault};
 use wl_ports::{Ledger, Memory, Work};
+
+/// The expression of a number.
+pub(crate) fn number_of(alloc: Global, n: u32) -> Result<Expr, Memory>
+    ensures { IfOk result (λ e. plain e ≡ natural n) }
+{
+    let Some(number) = Num::int(i128::from(n)) else {
+        unreachable!()
+    };
+    Expr::num(alloc, number)
+}
 
 impl Evaluator {
     /// Issues a message.
@@ -50,11 +63,8 @@ impl Evaluator {
         ensures played { IfOk result (λ _. Plays (prog.message symbol.now tag.now (natural number ∷ [])) self.old (Ok tt) self.new false) }
         ensures kept { self.new.steps ≡ self.old.steps }
     {
-        let Some(number) = Num::int(i128::from(number)) else {
-            unreachable!()
-        };
-        let number = Expr::num(self.alloc, number)?;
-        self.issue(symbol, tag, &[number], work)
+        let number = number_of(self.alloc, number)?;
+        self.issue(symbol, tag, slice::from_ref(&number), work)
     }
 
     /// Issues the message of an evaluation past the limit of depth.

@@ -34,7 +34,7 @@ use Rattle.wl_eval.proofs.Tables.{row_algebra, row_lists, row_special, row_none,
 use Rattle.wl_eval.proofs.Notices.{algebra_notices, lists_notices}
 use Rattle.wl_eval.proofs.Answering.{algebra_answers, lists_answers, algebra_honest, lists_honest}
 use Rattle.wl_eval.proofs.Shapes.{stays_plays, HonestShaped, shaped_honest, shape_stops, shape_is, threaded_plays, uneven_plays}
-use Rattle.wl_eval.proofs.Rounds.{no_symbol, no_node, node_makes, node_is, or_found, or_next, or_plays, no_rules, head_values-is, tried_at, up_named, up_unnamed, up_over, up_values-held, up_values-tried, built_in-node, built_in-none, plays_no_built_in, evaluated-held, evaluated-each, evaluated-value, evaluated-kept, evaluated-over, trees_push, turned_played, final_is, final_honest, turn_symbol, leaf_turn, symbol_back, node_turned}
+use Rattle.wl_eval.proofs.Rounds.{no_symbol, no_node, node_makes, node_is, or_found, or_next, or_plays, no_rules, head_values-is, tried_at, up_named, up_unnamed, up_over, up_values-held, up_values-tried, built_in-node, built_in-none, evaluated-held, evaluated-each, evaluated-value, evaluated-kept, evaluated-over, trees_push, turned_played, final_is, final_honest, turn_symbol, leaf_turn, symbol_back, node_turned}
 use Rattle.std.specs.List.{All}
 use Rattle.wl_match.specs.Left.{left, binding}
 use Rattle.wl_match.specs.Parts.{kept, whole}
@@ -86,6 +86,15 @@ use Rattle.wl_eval.proofs.ScopeRowParts.{block_exit, block_on, block_played, blo
 use Rattle.wl_eval.proofs.RowParts.{row_stays, row_at, row_made}
 use Rattle.wl_eval.proofs.ScopeRowParts.{initial_gives, shallow_push}
 use Rattle.wl_eval.proofs.GuardParts.{guard_block, guard_condition, guard_module, guard_none, guard_with}
+use Rattle.std.proofs.Common.{ap₂, ◌||◌}
+use Rattle.wl_expr.proofs.Items.{one_item, two_items}
+use Rattle.wl_desk.specs.Desk.{Desk, with_heard}
+use Rattle.wl_eval.specs.Endings.{EndsBy, quiet_end, unheard, unless_heard}
+use Rattle.wl_eval.specs.EndRows.{catch_tagged}
+use Rattle.wl_eval.specs.State.{Thrown}
+use Rattle.wl_eval.proofs.Catching.{abort_two, catch_one, catch_two, end_honest, tagged_is, tagged_passed, tagged_thrown, thrown_caught, thrown_on, thrown_stops}
+use Rattle.wl_eval.proofs.Hushing.{check_two, hushed_is, leaf_quietly, quiet_ended, quiet_one, quieted_sound, unheard_sound}
+use Rattle.wl_eval.proofs.SlotParts.{built_in-function}
 use Rattle.wl_eval.proofs.evaluator.Evaluator.+eval.Goals as goal
 
 -- ---- which rule applies
@@ -157,10 +166,6 @@ built_in-returns-in-Symbol-clause-played g t c =
     let es = c.in-Node.args.now in
     let q = ap (λ us. node (plain c.in-Node.head.now) us) (sym (plains_trees es)) ∙ c.in-Node.ensures.plain in
     subst (λ p. Played found_tree p c.args.self.now c.row.result c.row.new.self) (sym (built_in-node (plain c.in-Node.head.now) (trees es) c.in-Symbol.name.now (plain c.args.form.now) c.in-Symbol.ensures.plain q)) c.row.ensures.played
-
-pub built_in-returns-clause-played : goal.built_in-returns-clause-played
-built_in-returns-clause-played g t c =
-    (plays_no_built_in (plain c.in-Node.head.now) _ _ c.args.self.now c.in-Node.ensures.plain (no_symbol _ _ _ c.view-2.ensures.all c.in_default-view.not-Symbol) (sym c.is_form.ensures ∙ c.if-is_form.false), tt)
 
 -- ---- elements
 
@@ -252,14 +257,14 @@ evaluate-returns-then-is_leaf-clause-played g t c =
 
 pub evaluate-returns-then-depth-self-clause-played : goal.evaluate-returns-then-depth-self-clause-played
 evaluate-returns-then-depth-self-clause-played g t c =
-    (plays_too_deep c.args.e c.args.self.now c.too_deep.new.self (sym c.is_leaf.ensures ∙ c.if-is_leaf.false) c.requires.sound (omega arith) c.in_ok-too_deep.ensures.played, tt)
+    (plays_too_deep c.args.e c.args.self.now c.too_deep.new.self (sym c.is_leaf.ensures ∙ c.if-is_leaf.false) c.requires.sound.recursion (omega arith) c.in_ok-too_deep.ensures.played, tt)
 
 pub evaluate-returns-clause-played : goal.evaluate-returns-clause-played
 evaluate-returns-clause-played g t c =
     let k = c.args.self.now in
     let k1 = c.turns.new.self in
     let w = subst (λ z. TurnsEnd 1 (plain c.args.e) z (Ok c.in_ok-end.end) k1) c.open.ensures c.in_ok-end.ensures.played in (
-      plays_turns c.args.e k k1 (end_of c.in_ok-end.end) (sym c.is_leaf.ensures ∙ c.if-is_leaf.false) c.requires.sound (omega arith) w.0,
+      plays_turns c.args.e k k1 (end_of c.in_ok-end.end) (sym c.is_leaf.ensures ∙ c.if-is_leaf.false) c.requires.sound.recursion (omega arith) w.0,
       end_closed k1 k.depth c.in_ok-end.end (let d = turns_depth 1 (plain c.args.e) (entered k) k1 _ w.0 in omega (arith, d)) w.1,
     )
 
@@ -2221,3 +2226,134 @@ guard-returns-clause-played g t c n l =
     subst (λ z. Played found_tree z c.args.self.now c.block_guard.result c.block_guard.new.self)
     (sym (guard_block n e (omega arith) (sym c.is_condition.ensures ∙ c.if-is_condition.false) (sym c.is_guarded-is_guarded.ensures ∙ c.if-not-is_guarded.false) (sym c.is_form.ensures ∙ c.if-is_form.false) (sym c.is_form-2.ensures ∙ c.if-is_form-2.false)))
     (c.block_guard.ensures.played (n - 1) (omega (arith, l)))
+-- ---- ends, Quiet and Check
+
+pub evaluate_quietly-returns-then-is_leaf-clause-played : goal.evaluate_quietly-returns-then-is_leaf-clause-played
+evaluate_quietly-returns-then-is_leaf-clause-played g t c = (leaf_quietly c.args.e c.args.self.now (sym c.is_leaf.ensures ∙ c.if-is_leaf.true), c.requires.honest)
+
+pub evaluate_quietly-returns-then-depth-self-clause-played : goal.evaluate_quietly-returns-then-depth-self-clause-played
+evaluate_quietly-returns-then-depth-self-clause-played g t c = (c.in_ok-too_deep_quietly.ensures.played c.args.e (sym c.is_leaf.ensures ∙ c.if-is_leaf.false), tt)
+
+pub evaluate_quietly-turns-requires : goal.evaluate_quietly-turns-requires
+evaluate_quietly-turns-requires g t c κs within =
+    let k = c.args.self.now in
+    let h = hushed_is k c.open.new.self c.quiet.new.self c.open.ensures c.quiet.ensures in
+    (search rules, (within, (subst Sound (sym h) (quieted_sound k (omega arith) c.requires.sound), subst (λ z. Honest z c.args.e) (sym h) c.requires.honest)))
+
+pub evaluate_quietly-returns-clause-played : goal.evaluate_quietly-returns-clause-played
+evaluate_quietly-returns-clause-played g t c =
+    let k = c.args.self.now in
+    let h = hushed_is k c.open.new.self c.quiet.new.self c.open.ensures c.quiet.ensures in
+    let w = subst (λ z. TurnsEnd 1 (plain c.args.e) z (Ok c.in_ok-end.end) c.turns.new.self) h c.in_ok-end.ensures.played in
+    quiet_ended c.args.e k c.turns.new.self c.in_ok-end.end c.unquiet.new.self (sym c.is_leaf.ensures ∙ c.if-is_leaf.false) c.requires.sound (omega arith) w c.unquiet.ensures
+
+pub quiet_row-returns-clause-played : goal.quiet_row-returns-clause-played
+quiet_row-returns-clause-played g t c =
+    let k = c.args.self.now in
+    let k1 = c.evaluate_quietly.new.self in
+    let e = c.e-item.result in
+    let x = c.in_ok-end.end in
+    let es : c.args.args.now ≡ e ∷ [] = search (rules, one_item) in
+    quiet_one k k1 c.args.args.now e x c.passed_on.result es (subst (λ (z : Stamped). EndsBy (quiet_end (plain z)) k (Ok x) k1) c.in_ok-copy.ensures c.in_ok-end.ensures.played) (c.passed_on.ensures k1)
+
+pub check_row-evaluate-requires : goal.check_row-evaluate-requires
+check_row-evaluate-requires g t c κs within =
+    let k = c.args.self.now in
+    let q : ◌≡◌ {A = Evaluator} (record k { desk = c.set_heard.new.self }) (unheard k) = ap (λ (d : Desk). let y : Evaluator = record k { desk = d } in y) c.set_heard.ensures in
+    let e : Honest k c.e-item.result = search rules in
+    (search rules, (within, (subst Sound (sym q) (unheard_sound k c.requires.sound), subst (Honest k) (sym c.in_ok-copy.ensures) e)))
+
+pub check_row-returns-clause-played : goal.check_row-returns-clause-played
+check_row-returns-clause-played g t c =
+    let k = c.args.self.now in
+    let k1 = c.evaluate.new.self in
+    let e = c.e-item.result in
+    let f = c.other-item.result in
+    let x = c.in_ok-end.end in
+    let q : ◌≡◌ {A = Evaluator} (record k { desk = c.set_heard.new.self }) (unheard k) = ap (λ (d : Desk). let y : Evaluator = record k { desk = d } in y) c.set_heard.ensures in
+    let es : c.args.args.now ≡ e ∷ f ∷ [] = search (rules, two_items) in
+    let w = subst (λ (z : Stamped). Ended (plain z) (unheard k) (Ok x) k1) c.in_ok-copy.ensures (subst (λ z. Ended (plain c.in_ok-copy.field-0) z (Ok x) k1) q c.in_ok-end.ensures.played) in
+    let h : Honest k f = search rules in
+    check_two k k1 c.args.args.now e f x c.set_heard-2.new.self c.unless_heard.result es h w (c.set_heard-2.ensures ∙ ap₂ (λ a b. with_heard (a || b) k1.desk) c.heard-before.ensures c.heard-heard.ensures)
+    (λ k2 y z. subst (λ b. Played found_tree (sized_row (unless_heard (plain f) (end_of x, b))) k2 c.unless_heard.result k2) c.heard-heard.ensures (c.unless_heard.ensures k2 y z))
+
+pub catch_row-returns-then-args-eq1-clause-played : goal.catch_row-returns-then-args-eq1-clause-played
+catch_row-returns-then-args-eq1-clause-played g t c =
+    let k = c.args.self.now in
+    let k1 = c.evaluate.new.self in
+    let e = c.index-args-0.result in
+    let x = c.in_ok-end.end in
+    let es : c.args.args.now ≡ e ∷ [] = one_item c.args.args.now e (omega (arith, c.if-args-eq1.true)) c.index-args-0.is in
+    catch_one k k1 c.args.args.now e x c.caught.result es (subst (λ (z : Stamped). Ended (plain z) k (Ok x) k1) c.in_ok-copy.ensures c.in_ok-end.ensures.played) (c.caught.ensures k1)
+
+pub check_abort_row-returns-clause-played : goal.check_abort_row-returns-clause-played
+check_abort_row-returns-clause-played g t c =
+    let k = c.args.self.now in
+    let k1 = c.evaluate.new.self in
+    let e = c.e-item.result in
+    let f = c.other-item.result in
+    let x = c.in_ok-end.end in
+    let es : c.args.args.now ≡ e ∷ f ∷ [] = search (rules, two_items) in
+    let h : Honest k f = search rules in
+    abort_two k k1 c.args.args.now e f x c.after_abort.result es (subst (λ (z : Stamped). Ended (plain z) k (Ok x) k1) c.in_ok-copy.ensures c.in_ok-end.ensures.played) (λ y. c.after_abort.ensures k1 y (later c.in_ok-end.ensures.played.0 f h))
+
+pub catch_tagged-returns-in_default-clause-played : goal.catch_tagged-returns-in_default-clause-played
+catch_tagged-returns-in_default-clause-played g t c =
+    tagged_passed (plain c.args.pattern.now) c.args.self.now c.args.end c.passed_on.result c.in_default.not-Thrown (c.passed_on.ensures c.args.self.now c.requires.honest)
+
+pub catch_tagged-returns-in-Thrown-None-clause-played : goal.catch_tagged-returns-in-Thrown-None-clause-played
+catch_tagged-returns-in-Thrown-None-clause-played g t c = tagged_thrown (plain c.args.pattern.now) c.args.self.now c.args.end c.in-Thrown.v c.in-Thrown.tag c.in-Thrown.is c.in-None.is c.requires.honest
+
+pub catch_tagged-returns-in-Thrown-Some-clause-played : goal.catch_tagged-returns-in-Thrown-Some-clause-played
+catch_tagged-returns-in-Thrown-Some-clause-played g t c =
+    subst (λ z. Played found_tree (sized_row (catch_tagged (plain c.args.pattern.now) (end_of z))) c.args.self.now c.catch_thrown.result c.catch_thrown.new.self)
+    (sym (tagged_is c.args.end c.in-Thrown.v c.in-Thrown.tag c.in-Some.tag c.in-Thrown.is c.in-Some.is)) c.catch_thrown.ensures.played
+
+pub catch_thrown-returns-in_err-found-clause-played : goal.catch_thrown-returns-in_err-found-clause-played
+catch_thrown-returns-in_err-found-clause-played g t c =
+    let p = err_from_is_err_and c.from_residual.result c.from_residual.ensures.1 in
+    let w = c.in_err-found.ensures.played (2 ^ 64) c.ranges.self.steps in
+    subst (λ z. Played found_tree (sized_row (catch_tagged (plain c.args.pattern.now) (Thrown (plain c.args.v) (Some (plain c.args.tag))))) c.args.self.now z c.matches.new.self) (sym (p.1 ∙ ap Err p.2))
+    (thrown_stops (plain c.args.pattern.now) (plain c.args.v) (plain c.args.tag) c.args.self.now c.in_err-found.field-0.0 c.matches.new.self w)
+
+pub catch_thrown-returns-then-found-clause-played : goal.catch_thrown-returns-then-found-clause-played
+catch_thrown-returns-then-found-clause-played g t c =
+    let w = c.in_ok-found.ensures.played (2 ^ 64) c.ranges.self.steps in
+    thrown_caught (plain c.args.pattern.now) c.args.v c.args.tag c.args.self.now c.matches.new.self c.in_ok-found.found w.0 c.if-found.true c.weight-_weight.ensures.fits (later w.0 _ c.requires.value)
+
+pub catch_thrown-returns-clause-played : goal.catch_thrown-returns-clause-played
+catch_thrown-returns-clause-played g t c =
+    let w = c.in_ok-found.ensures.played (2 ^ 64) c.ranges.self.steps in
+    thrown_on (plain c.args.pattern.now) c.args.v c.args.tag c.args.self.now c.matches.new.self c.in_ok-found.found w.0 c.if-found.false (later w.0 _ c.requires.value) (later w.0 _ c.requires.tag)
+
+pub built_in-returns-clause-played : goal.built_in-returns-clause-played
+built_in-returns-clause-played g t c =
+    let es = c.in-Node.args.now in
+    let h = plain c.in-Node.head.now in
+    let q = ap (λ us. node h us) (sym (plains_trees es)) ∙ c.in-Node.ensures.plain in
+    subst (λ p. Played found_tree p c.args.self.now c.function_row.result c.function_row.new.self) (sym (built_in-function h (trees es) (plain c.args.form.now) q (no_symbol _ _ _ c.view-2.ensures.all c.in_default-view.not-Symbol)))
+    c.function_row.ensures.played
+
+pub other_row-returns-in-Throw-clause-played : goal.other_row-returns-in-Throw-clause-played
+other_row-returns-in-Throw-clause-played g t c = subst (λ z. Played found_tree (sized_row (kinds.row_by z (trees c.args.args.now))) c.args.self.now c.throw_row.result c.args.self.now) (sym c.in-Throw.is) (c.throw_row.ensures c.args.self.now c.requires.args)
+
+pub other_row-returns-in-Catch-clause-played : goal.other_row-returns-in-Catch-clause-played
+other_row-returns-in-Catch-clause-played g t c = subst (λ z. Played found_tree (sized_row (kinds.row_by z (trees c.args.args.now))) c.args.self.now c.catch_row.result c.catch_row.new.self) (sym c.in-Catch.is) c.catch_row.ensures.played
+
+pub other_row-returns-in-Abort-clause-played : goal.other_row-returns-in-Abort-clause-played
+other_row-returns-in-Abort-clause-played g t c = subst (λ z. Played found_tree (sized_row (kinds.row_by z (trees c.args.args.now))) c.args.self.now c.abort_row.result c.args.self.now) (sym c.in-Abort.is) (c.abort_row.ensures c.args.self.now)
+
+pub other_row-returns-in-CheckAbort-clause-played : goal.other_row-returns-in-CheckAbort-clause-played
+other_row-returns-in-CheckAbort-clause-played g t c = subst (λ z. Played found_tree (sized_row (kinds.row_by z (trees c.args.args.now))) c.args.self.now c.check_abort_row.result c.check_abort_row.new.self) (sym c.in-CheckAbort.is) c.check_abort_row.ensures.played
+
+pub other_row-returns-in-Break-clause-played : goal.other_row-returns-in-Break-clause-played
+other_row-returns-in-Break-clause-played g t c = subst (λ z. Played found_tree (sized_row (kinds.row_by z (trees c.args.args.now))) c.args.self.now c.break_row.result c.args.self.now) (sym c.in-Break.is) (c.break_row.ensures c.args.self.now)
+
+pub other_row-returns-in-Continue-clause-played : goal.other_row-returns-in-Continue-clause-played
+other_row-returns-in-Continue-clause-played g t c = subst (λ z. Played found_tree (sized_row (kinds.row_by z (trees c.args.args.now))) c.args.self.now c.continue_row.result c.args.self.now) (sym c.in-Continue.is) (c.continue_row.ensures c.args.self.now)
+
+pub other_row-returns-in-Quiet-clause-played : goal.other_row-returns-in-Quiet-clause-played
+other_row-returns-in-Quiet-clause-played g t c = subst (λ z. Played found_tree (sized_row (kinds.row_by z (trees c.args.args.now))) c.args.self.now c.quiet_row.result c.quiet_row.new.self) (sym c.in-Quiet.is) c.quiet_row.ensures.played
+
+pub other_row-returns-in-Check-clause-played : goal.other_row-returns-in-Check-clause-played
+other_row-returns-in-Check-clause-played g t c = subst (λ z. Played found_tree (sized_row (kinds.row_by z (trees c.args.args.now))) c.args.self.now c.check_row.result c.check_row.new.self) (sym c.in-Check.is) c.check_row.ensures.played

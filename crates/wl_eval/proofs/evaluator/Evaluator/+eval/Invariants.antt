@@ -494,3 +494,25 @@ decreases-guarded_value g l = 8000 * l.self.now.steps + 3003 + 3 * depth (plain 
 
 abbrev pub decreases-condition_result : goal.decreases-condition_result
 decreases-condition_result g l = 8000 * l.self.now.steps + 14
+-- ---- ends, Quiet and Check
+
+abbrev pub decreases-catch_row : goal.decreases-catch_row
+decreases-catch_row g l = 8000 * l.self.now.steps + 7600
+
+abbrev pub decreases-catch_tagged : goal.decreases-catch_tagged
+decreases-catch_tagged g l = 8000 * l.self.now.steps + 7590
+
+abbrev pub decreases-catch_thrown : goal.decreases-catch_thrown
+decreases-catch_thrown g l = 8000 * l.self.now.steps + 7580
+
+abbrev pub decreases-check_abort_row : goal.decreases-check_abort_row
+decreases-check_abort_row g l = 8000 * l.self.now.steps + 7600
+
+abbrev pub decreases-quiet_row : goal.decreases-quiet_row
+decreases-quiet_row g l = 8000 * l.self.now.steps + 7600
+
+abbrev pub decreases-check_row : goal.decreases-check_row
+decreases-check_row g l = 8000 * l.self.now.steps + 7600
+
+abbrev pub decreases-evaluate_quietly : goal.decreases-evaluate_quietly
+decreases-evaluate_quietly g l = 8000 * l.self.now.steps + 10
