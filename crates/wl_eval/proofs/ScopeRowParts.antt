@@ -12,7 +12,7 @@ use Rattle.wl_eval.specs.State.{End}
 use Rattle.wl_eval.specs.Prog.{Prog, done, ◌>>=◌, draw, number, asking, ended, now, sized, value_of, unchanged}
 use Rattle.wl_eval.specs.LocalNames.{AreShallow, IsShallow, IsSymbol, local, local_in, with_body_of, scope_parts, aside}
 use Rattle.wl_eval.specs.Honest.{HonestIn}
-use Rattle.wl_eval.specs.Operands.{sized_row}
+use Rattle.wl_eval.specs.Parts.{sized_row}
 use Rattle.wl_eval.specs.Played.{Plays, Played, Seen, Leads, tree as value, honest_tree, found_tree}
 use Rattle.wl_eval.specs.ScopeRows as rows
 use Rattle.wl_eval.specs.Scoping as scoping

@@ -1,5 +1,5 @@
 -- The guards of Module, With and Block by their local names and bodies, where these are there.
-use Rattle.std.specs.Prelude.{ℕ, List, Option, Some, None}
+use Rattle.std.specs.Prelude.{ℕ, true, List, Option, Some, None}
 use Rattle.wl_expr.specs.Tree.{Tree}
 use Rattle.wl_shape.specs.Scopes.{Local}
 use Rattle.wl_eval.specs.Prog.{Prog, done, ◌>>=◌, sized}

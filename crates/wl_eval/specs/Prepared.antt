@@ -94,7 +94,7 @@ name_and_one (symbol x ∷ t ∷ []) = Some (x, t)
 name_and_one es = None
 
 abbrev pub name_and_two : List Tree → Option (Name × Tree × Tree)
-name_and_two (symbol x ∷ t ∷ u ∷ []) = Some (x, (t, u))
+name_and_two (symbol x ∷ t ∷ u ∷ []) = Some (x, t, u)
 name_and_two es = None
 
 -- ---- new values

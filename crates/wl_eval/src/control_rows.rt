@@ -61,7 +61,7 @@ impl Evaluator {
         work: &mut Work<L>,
     ) -> Result<Option<Expr>, Stop>
         requires sound { Sound self.old }
-        requires name { IfSome name.entry (λ x. IsName x.now) }
+        requires name { IfSome name (λ x. IsName x.now) }
         requires awaits { IsAwaited (stand cursor) start }
         requires held { Holds self.old cursor replies.Start }
         requires bounded { IsBounded (after (stand cursor) start) }
@@ -88,7 +88,7 @@ impl Evaluator {
         work: &mut Work<L>,
     ) -> Result<Option<Expr>, Stop>
         requires sound { Sound self.old }
-        requires name { IfSome name.entry (λ x. IsName x.now) }
+        requires name { IfSome name (λ x. IsName x.now) }
         requires taken { taken.old ≡ None }
         requires awaits { IsAwaited (stand first) start }
         requires held { Holds self.old first replies.Start }
@@ -147,8 +147,8 @@ impl Evaluator {
         work: &mut Work<L>,
     ) -> Result<Outcome, Stop>
         requires sound { Sound self.old }
-        requires name { IfSome name.entry (λ x. IsName x.now) }
-        requires taken { AreTaken self.old (option_copied name.entry) taken.old }
+        requires name { IfSome name (λ x. IsName x.now) }
+        requires taken { AreTaken self.old (option_copied name) taken.old }
         requires honest { HonestAsk self.old ask }
         ensures played { (row : Asks) (k : Evaluator) (a : Asks) (s : Stand)
             → Leads (control.played (option_copied name.entry) None row) k (control.played (option_copied name.entry) (set_aside (option_copied name.entry) taken.old) a) self.old

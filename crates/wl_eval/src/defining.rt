@@ -4,6 +4,7 @@ ghost use Rattle.wl_assign.specs.Tags.{tags};
 ghost use Rattle.wl_assign.specs.Targets.{target};
 ghost use Rattle.wl_expr.specs.Stamped.{plain};
 ghost use Rattle.wl_expr.specs.Tree as tree;
+ghost use Rattle.wl_expr.specs.Words.{Name};
 ghost use Rattle.wl_ports.specs.Name.{IsName};
 ghost use Rattle.wl_eval.specs.Definitions as definitions;
 ghost use Rattle.wl_eval.specs.LeftSides.{is_limit, limit_allows};
@@ -50,7 +51,7 @@ fn tagged_by_head(kind: RuleKind, head: &str, name: &str) -> Tagged
 }
 
 /// The rule that a name gets as a tag of a core, or where it isn't one from the plain definition.
-pub(crate) fn tagged(name: &str, core: &Expr) -> Tagged
+pub(crate) fn kind_for_tag(name: &str, core: &Expr) -> Tagged
     ensures { tagged_of result ≡ definitions.tagged name.now (plain core.now) }
 {
     let is_tag = has_tag(core, name);
@@ -353,7 +354,7 @@ impl Evaluator {
             (plain body.now) (plain value.now) (definitions.tagged name.now (plain core.now))) self.old (Ok b) self.new false) }
         ensures kept { self.new.steps ≡ self.old.steps }
     {
-        match tagged(name, core) {
+        match kind_for_tag(name, core) {
             Tagged::Raw => self.refused_raw(core, work),
             Tagged::NotFound => self.refused_tag(name, core, work),
             Tagged::OfKind(kind) => {
@@ -399,7 +400,7 @@ impl Evaluator {
             (definitions.tagged name.now (plain core.now))) self.old (Ok (Some (taken_answer b))) self.new false) }
         ensures kept { self.new.steps ≡ self.old.steps }
     {
-        match tagged(name, core) {
+        match kind_for_tag(name, core) {
             Tagged::Raw => {
                 let is_refused = self.refused_raw(core, work)?;
                 Ok(!is_refused)

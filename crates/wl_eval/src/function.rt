@@ -18,9 +18,10 @@ ghost use Rattle.wl_eval.specs.ScopeRows.{function_applied, is_inner, slot_of, w
 ghost use Rattle.wl_eval.specs.Slots.{IsGiven, new_or, slot_value};
 ghost use Rattle.wl_eval.specs.Parts.{sized_row};
 
+use crate::elements::is_symbol;
 use crate::ends::Stop;
 use crate::evaluator::Evaluator;
-use crate::operands::{are_symbols, is_symbol, listed, symbol};
+use crate::operands::{are_symbols, listed, symbol};
 use std::alloc::Global;
 use wl_expr::{Expr, ExprFault, Look, copy_all};
 use wl_ports::{Ledger, Memory, Work};

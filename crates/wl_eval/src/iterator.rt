@@ -181,7 +181,7 @@ impl Evaluator {
     /// What was set aside of the entry of the iterator's name comes back.
     pub(crate) fn give_back_iterator(&mut self, name: Option<&str>, taken: Option<Taken>)
         requires sound { Sound self.old }
-        requires taken { AreTaken self.old (option_copied name.entry) taken }
+        requires taken { AreTaken self.old (option_copied name) taken }
         ensures played { Plays (control.give_back_taken (set_aside (option_copied name.entry) taken)) self.old (Ok tt) self.new false }
         ensures kept { self.new.steps ≡ self.old.steps }
     {

@@ -146,9 +146,9 @@ fn put_back(
     core: &Option<Expr>,
 ) -> Result<Expr, ExprFault>
     ensures made { (c : Tree) → Stands c core.now
-        → Makes (with_core (under (option_map (λ e. plain e.now) condition) (plain left.now)) c) result }
+        → Makes (with_core (under (option_map (λ e. plain e.now) condition.entry) (plain left.now)) c) result }
     ensures some { IfOk result (λ _. is_some core.now ≡ true) }
-    ensures honest { (a : Stored) → HonestIn a left.now → IfSome condition (λ e. HonestIn a e.now) → HonestOption a core.now
+    ensures honest { (a : Stored) → HonestIn a left.now → IfSome condition.entry (λ e. HonestIn a e.now) → HonestOption a core.now
         → IfOk result (HonestIn a) }
 {
     let Some(core) = core else {
@@ -232,10 +232,10 @@ impl Evaluator {
         requires sound { Sound self.old }
         requires honest { Honest self.old left.now }
         requires condition { IfSome condition (λ e. Honest self.old e.now) }
-        ensures played { Played prepared_side (definitions.prepared (under (option_map (λ e. plain e.now) condition) (plain left.now)))
+        ensures played { Played prepared_side (definitions.prepared (under (option_map (λ e. plain e.now) condition.entry) (plain left.now)))
             self.old result self.new }
         ensures left { IfOk result (λ p. plain p.left
-            ≡ with_core (under (option_map (λ e. plain e.now) condition) (plain left.now)) (plain p.core)) }
+            ≡ with_core (under (option_map (λ e. plain e.now) condition.entry) (plain left.now)) (plain p.core)) }
         ensures falls { self.new.steps ≤ self.old.steps }
     {
         let core = self.core_of(left, work)?;

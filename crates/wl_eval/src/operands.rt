@@ -158,7 +158,7 @@ pub(crate) fn name_and_one(args: &[Expr]) -> Option<(&str, &Expr)>
 
 /// The three elements of a row whose first is a symbol.
 pub(crate) fn name_and_two(args: &[Expr]) -> Option<(&str, &Expr, &Expr)>
-    ensures value { option_map (λ p. (p.0.now, (plain p.1.now, plain p.2.now))) result ≡ name_and_two (trees args.now) }
+    ensures value { option_map (λ p. (p.0.now, plain p.1.now, plain p.2.now)) result ≡ name_and_two (trees args.now) }
     ensures name { IfSome result (λ p. IsName p.0.now) }
     ensures honest { (a : Stored) → All (HonestIn a) args.now → IfSome result (λ p. HonestIn a p.1.now × HonestIn a p.2.now) }
 {

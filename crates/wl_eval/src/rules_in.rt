@@ -8,8 +8,9 @@ ghost use Rattle.wl_eval.specs.LeftSides.{moved_condition};
 ghost use Rattle.wl_eval.specs.MatchRows as rows;
 ghost use Rattle.wl_eval.specs.Replacing.{IsRuleFrom, MaybeRuleFrom, MaybeRulesFrom, conditioned, is_rule_head};
 
+use crate::elements::is_symbol;
 use crate::guard::is_condition;
-use crate::operands::{is_symbol, pair, symbol};
+use crate::operands::{pair, symbol};
 use std::alloc::Global;
 use std::slice;
 use wl_expr::{Expr, Look};

@@ -5,7 +5,7 @@ ghost use Rattle.wl_expr.specs.Stamped.{plain};
 ghost use Rattle.wl_rules.specs.Stored.{Stored};
 ghost use Rattle.wl_eval.specs.Honest.{HonestIn};
 ghost use Rattle.wl_eval.specs.LocalNames.{AreLocals, AreShallow, IsLocal, IsShallow, local, local_in, local_list, locals_in, scope_parts};
-ghost use Rattle.wl_eval.specs.Operands.{sized_row};
+ghost use Rattle.wl_eval.specs.Parts.{sized_row};
 ghost use Rattle.wl_eval.specs.Played.{AllHonest, Played, Sound, found_tree, trees};
 ghost use Rattle.wl_eval.specs.ScopeRows as rows;
 ghost use Rattle.wl_eval.specs.Scoping as scoping;
