@@ -106,6 +106,17 @@ unfit_first h t ts e = beyond (node h (more t ts)) (large_args h (more t ts) (λ
 pub unfit_second : (h t u : Tree) (ts : Trees) → fits u ≡ false → fits (node h (more t (more u ts))) ≡ false
 unfit_second h t u ts e = beyond (node h (more t (more u ts))) (large_args h (more t (more u ts)) (λ s. not_within u e record { light = omega (arith, s.light); shallow = omega (arith, s.shallow) }))
 
+pub unfit_within : (l c : Tree) → fits c ≡ false → fits (with_core l c) ≡ false
+unfit_within (num n) c e = e
+unfit_within (text s) c e = e
+unfit_within (symbol x) c e = e
+unfit_within (node h none) c e = e
+unfit_within (node h (more l ts)) c e = go (is_around (special_node h (to_list (more l ts))))
+  where
+    go : (b : Bool) → fits (elim b [ true ↦ node h (more (with_core l c) ts) | false ↦ c ]) ≡ false
+    go true = unfit_first h (with_core l c) ts (unfit_within l c e)
+    go false = e
+
 -- ---- sequences among elements
 
 pub shape_kept : (b : Bool) (h : Tree) (es : List Tree) → shape (kept_sequences b) h es ≡ rebuilt (applied h (elim b [ true ↦ es | false ↦ spliced_list (symbol (codes "Sequence")) es ]))

@@ -95,6 +95,21 @@ use Rattle.wl_eval.specs.State.{Thrown}
 use Rattle.wl_eval.proofs.Catching.{abort_two, catch_one, catch_two, end_honest, tagged_is, tagged_passed, tagged_thrown, thrown_caught, thrown_on, thrown_stops}
 use Rattle.wl_eval.proofs.Hushing.{check_two, hushed_is, leaf_quietly, quiet_ended, quiet_one, quieted_sound, unheard_sound}
 use Rattle.wl_eval.proofs.SlotParts.{built_in-function}
+use Rattle.wl_expr.proofs.SameNodes.{same_answer}
+use Rattle.wl_expr.specs.Tree.{depths}
+use Rattle.wl_shape.specs.Shape.{without_sequences}
+use Rattle.wl_eval.specs.Definitions as definitions
+use Rattle.wl_eval.specs.LeftSides.{with_core}
+use Rattle.wl_eval.specs.Played.{honest_tree}
+use Rattle.wl_eval.specs.Prepared.{Stands, prepared_side, under, set_one, updated, one, kept as kept_value}
+use Rattle.wl_eval.proofs.Rows.{played_stop}
+use Rattle.wl_eval.proofs.Values.{passed_honest}
+use Rattle.wl_eval.proofs.RowParts.{made_is}
+use Rattle.wl_eval.proofs.MatchRowParts.{head_depth}
+use Rattle.wl_eval.proofs.Preparing.{condition_later, leaf_core, node_core, made_stop, made_bind, made_done, held_made, open_made, prepared_stop, unsized_stop, sides_given}
+use Rattle.wl_eval.proofs.Setting.{define_sides, define_up_sides, define_tagged_sides, no_condition, row_refusal, row_taken, set_text, set_single, set_shape, set_at, set_step, set_over}
+use Rattle.wl_eval.proofs.Updating.{changing_stop, changing_none, new_stop, new_given, chosen_is, chosen_honest}
+use Rattle.wl_eval.proofs.DefiningRows.{by, read_some, set_both, set_row-by, delay_both, set_delayed_row-by, up_both, up_set_row-by, up_delay_both, up_set_delayed_row-by, unset_one, unset_row-by, changed_both, changing_by-by, stepping-by, tag_three, tag_set_row-by, tag_delay_three, tag_set_delayed_row-by, tag_unset, tag_unset_row-by}
 use Rattle.wl_eval.proofs.evaluator.Evaluator.+eval.Goals as goal
 
 -- ---- which rule applies
@@ -2357,3 +2372,459 @@ other_row-returns-in-Quiet-clause-played g t c = subst (λ z. Played found_tree 
 
 pub other_row-returns-in-Check-clause-played : goal.other_row-returns-in-Check-clause-played
 other_row-returns-in-Check-clause-played g t c = subst (λ z. Played found_tree (sized_row (kinds.row_by z (trees c.args.args.now))) c.args.self.now c.check_row.result c.check_row.new.self) (sym c.in-Check.is) c.check_row.ensures.played
+
+-- ---- left sides
+
+pub evaluated_core-returns-in_default-clause-played : goal.evaluated_core-returns-in_default-clause-played
+evaluated_core-returns-in_default-clause-played g t c =
+    leaf_core c.args.core.now c.in_ok-copy.field-0 c.args.self.now (no_node _ _ _ c.view.ensures.all c.in_default.not-Node) c.in_ok-copy.ensures c.requires.honest
+
+pub evaluated_core-evaluated_core-requires : goal.evaluated_core-evaluated_core-requires
+evaluated_core-evaluated_core-requires g t c κs within =
+    let d = head_depth (plain c.in-Node.head.now) (plain c.args.core.now) c.in-Node.args.now c.in-Node.ensures.plain in
+    (omega (arith, d), (within, (c.requires.sound, head_honest c.args.self.now.store _ _ _ _ c.in-Node.ensures.all c.requires.honest)))
+
+pub evaluated_core-returns-in_err-made-clause-played : goal.evaluated_core-returns-in_err-made-clause-played
+evaluated_core-returns-in_err-made-clause-played g t c =
+    node_core (plain c.in-Node.head.now) (plain c.args.core.now) c.in-Node.args.now c.in-Node.ensures.plain (made_stop honest_tree _ _ _ _ _ _ c.from_residual-in_err-made.ensures.1 c.in_err-made.ensures.played)
+
+pub evaluated_core-attributes_of_made-requires : goal.evaluated_core-attributes_of_made-requires
+evaluated_core-attributes_of_made-requires g t c = record { sound = c.in_ok-made.ensures.played.1.0.sound c.requires.sound }
+
+pub evaluated_core-elements-requires : goal.evaluated_core-elements-requires
+evaluated_core-elements-requires g t c κs within =
+    let m = c.in_ok-made.ensures.played in
+    let w = c.in_ok-attributes.ensures.played m.0 m.1.1.0 in
+    (omega (arith, c.in_ok-made.ensures.falls, c.in_ok-attributes.ensures.kept), (within, (w.sound (m.1.0.sound c.requires.sound), all_later w _ (all_later m.1.0 _ (args_honest c.args.self.now.store _ _ _ _ c.in-Node.ensures.all c.requires.honest)))))
+
+pub evaluated_core-returns-in_err-values-clause-played : goal.evaluated_core-returns-in_err-values-clause-played
+evaluated_core-returns-in_err-values-clause-played g t c =
+    let m = c.in_ok-made.ensures.played in
+    let w = c.in_ok-attributes.ensures.played m.0 m.1.1.0 in
+    node_core (plain c.in-Node.head.now) (plain c.args.core.now) c.in-Node.args.now c.in-Node.ensures.plain
+    (made_bind _ _ _ _ _ _ _ m.1.0 (made_bind _ _ _ _ _ _ _ w (made_stop (values c.in_ok-attributes.attributes) _ _ _ _ _ _ c.from_residual-in_err-values.ensures.1 c.in_err-values.ensures.played)))
+
+pub evaluated_core-returns-clause-played : goal.evaluated_core-returns-clause-played
+evaluated_core-returns-clause-played g t c =
+    let m = c.in_ok-made.ensures.played in
+    let a = c.in_ok-attributes.attributes in
+    let w = c.in_ok-attributes.ensures.played m.0 m.1.1.0 in
+    let x = c.in_ok-values.ensures.played in
+    let k = c.elements.new.self in
+    let made = c.in_ok-core_made.field-0 in
+    let stands = subst (λ zs. Stands (applied m.0 (without_sequences a (trees zs))) made) c.as_slice.ensures.value (c.in_ok-core_made.ensures.made m.0 m.1.1.0) in
+    let honest = c.in_ok-core_made.ensures.honest k.store (option_later x.0 _ (option_later w _ m.1.1.1)) (subst (AllHonest k) (sym c.as_slice.ensures.value) x.1.0) in
+    node_core (plain c.in-Node.head.now) (plain c.args.core.now) c.in-Node.args.now c.in-Node.ensures.plain
+    (made_bind _ _ _ _ _ _ _ m.1.0 (made_bind _ _ _ _ _ _ _ w (made_bind _ _ _ _ _ _ _ x.0 (made_done _ k made stands honest))))
+
+pub core_of-returns-then-held-found-clause-played : goal.core_of-returns-then-held-found-clause-played
+core_of-returns-then-held-found-clause-played g t c =
+    let k = c.args.self.now in
+    let l = c.args.left.now in
+    let e = c.in_ok-copy.field-0 in
+    held_made (plain l) e k (sym c.core-found.ensures.held ∙ c.if-held-found.true) (ap plain c.in_ok-copy.ensures ∙ c.core-found.ensures.core)
+    (subst (Honest k) (sym c.in_ok-copy.ensures) (passed_honest k.store l _ c.core-found.ensures.passed c.requires.honest))
+
+pub core_of-evaluated_core-requires : goal.core_of-evaluated_core-requires
+core_of-evaluated_core-requires g t c κs within =
+    (omega (arith, c.depth-depth.ensures.fits.shallow), (within, (c.requires.sound, passed_honest c.args.self.now.store c.args.left.now _ c.core-found.ensures.passed c.requires.honest)))
+
+pub core_of-returns-clause-played : goal.core_of-returns-clause-played
+core_of-returns-clause-played g t c =
+    open_made (plain c.args.left.now) (plain c.core-found.result.core.now) (sym c.core-found.ensures.held ∙ c.if-held-found.false) c.core-found.ensures.core c.evaluated_core.ensures.played
+
+pub prepared-returns-in_err-core-clause-played : goal.prepared-returns-in_err-core-clause-played
+prepared-returns-in_err-core-clause-played g t c =
+    prepared_stop (option_map (λ e. plain e.now) c.args.condition.entry) (plain c.args.left.now) c.args.self.now _ _ _ c.from_residual.ensures.1 c.in_err-core.ensures.played
+
+pub prepared-returns-in_err-left-clause-played : goal.prepared-returns-in_err-left-clause-played
+prepared-returns-in_err-left-clause-played g t c =
+    let o = option_map (λ e. plain e.now) c.args.condition.entry in
+    let l = plain c.args.left.now in
+    let m = c.in_ok-core.ensures.played in
+    unsized_stop o l c.args.self.now m.0 _ m.1.0 _ _ _ c.from_residual-in_err-left.ensures.1 (c.in_err-left.ensures.played (with_core (under o l) m.0) (c.put_back-made.ensures.made m.0 m.1.1.0))
+
+pub prepared-returns-clause-played : goal.prepared-returns-clause-played
+prepared-returns-clause-played g t c =
+    let o = option_map (λ e. plain e.now) c.args.condition.entry in
+    let l = c.args.left.now in
+    let k = c.args.self.now in
+    let k1 = c.core_of.new.self in
+    let m = c.in_ok-core.ensures.played in
+    let f = c.in_ok-left.ensures.played (with_core (under o (plain l)) m.0) (c.put_back-made.ensures.made m.0 m.1.1.0) in
+    let s = subst (Stands m.0) c.in-Some.is m.1.1.0 in
+    let h = made_is (Honest k1) _ c.in_ok-left.left c.in_ok-left.ensures.made (c.put_back-made.ensures.honest k1.store (later m.1.0 _ c.requires.left) (condition_later m.1.0 c.args.condition.entry c.requires.condition) m.1.1.1) in
+    (sides_given o (plain l) k m.0 k1 m.1.0 c.in_ok-left.left c.in-Some.core c.fitted.new.self f.0 f.1 s, later f.0 _ h)
+
+pub prepared-returns-clause-left : goal.prepared-returns-clause-left
+prepared-returns-clause-left g t c =
+    let o = option_map (λ e. plain e.now) c.args.condition.entry in
+    let l = plain c.args.left.now in
+    let m = c.in_ok-core.ensures.played in
+    let f = c.in_ok-left.ensures.played (with_core (under o l) m.0) (c.put_back-made.ensures.made m.0 m.1.1.0) in
+    f.1 ∙ ap (with_core (under o l)) (sym (subst (Stands m.0) c.in-Some.is m.1.1.0))
+
+-- ---- definitions
+
+pub define-prepared-requires : goal.define-prepared-requires
+define-prepared-requires g t c κs within = (search rules, (within, (c.requires.sound, (c.requires.left, c.moved.ensures.condition c.args.self.now.store c.requires.value))))
+
+pub define-returns-in_err-sides-clause-played : goal.define-returns-in_err-sides-clause-played
+define-returns-in_err-sides-clause-played g t c =
+    let l = plain c.args.left.now in
+    let v = plain c.args.value.now in
+    subst (λ p. Played itself p c.args.self.now c.from_residual.result c.prepared.new.self) (sym (define_sides c.args.immediate l v _ (c.moved.ensures.moved l)))
+    (exit prepared_side itself _ _ _ _ _ _ c.from_residual.ensures.1 c.in_err-sides.ensures.played)
+
+pub define-define_target-requires : goal.define-define_target-requires
+define-define_target-requires g t c =
+    let m = c.in_ok-sides.ensures.played in
+    record {
+      sound = m.0.sound c.requires.sound;
+      left = m.1;
+      body = later m.0 _ (c.moved.ensures.body c.args.self.now.store c.requires.value);
+      unmoved = λ x e. c.moved.ensures.stays (no_condition _ _ _ _ _ x c.in_ok-sides.ensures.left e);
+    }
+
+pub define-returns-clause-played : goal.define-returns-clause-played
+define-returns-clause-played g t c =
+    let l = plain c.args.left.now in
+    let v = plain c.args.value.now in
+    (subst (λ p. Plays p c.args.self.now (Ok c.in_ok-define_target.field-0) c.define_target.new.self false) (sym (define_sides c.args.immediate l v _ (c.moved.ensures.moved l)))
+    (plays_bind _ _ c.in_ok-sides.ensures.played.0 c.in_ok-define_target.ensures.played), tt)
+
+pub define_up-prepared-requires : goal.define_up-prepared-requires
+define_up-prepared-requires g t c κs within = (search rules, (within, (c.requires.sound, (c.requires.left, c.moved.ensures.condition c.args.self.now.store c.requires.value))))
+
+pub define_up-returns-in_err-sides-clause-played : goal.define_up-returns-in_err-sides-clause-played
+define_up-returns-in_err-sides-clause-played g t c =
+    let l = plain c.args.left.now in
+    let v = plain c.args.value.now in
+    subst (λ p. Played itself p c.args.self.now c.from_residual.result c.prepared.new.self) (sym (define_up_sides l v _ (c.moved.ensures.moved l)))
+    (exit prepared_side itself _ _ _ _ _ _ c.from_residual.ensures.1 c.in_err-sides.ensures.played)
+
+pub define_up-define_up_target-requires : goal.define_up-define_up_target-requires
+define_up-define_up_target-requires g t c =
+    let m = c.in_ok-sides.ensures.played in
+    record { sound = m.0.sound c.requires.sound; left = m.1; body = later m.0 _ (c.moved.ensures.body c.args.self.now.store c.requires.value) }
+
+pub define_up-returns-clause-played : goal.define_up-returns-clause-played
+define_up-returns-clause-played g t c =
+    let l = plain c.args.left.now in
+    let v = plain c.args.value.now in
+    (subst (λ p. Plays p c.args.self.now (Ok c.in_ok-define_up_target.field-0) c.define_up_target.new.self false) (sym (define_up_sides l v _ (c.moved.ensures.moved l)))
+    (plays_bind _ _ c.in_ok-sides.ensures.played.0 c.in_ok-define_up_target.ensures.played), tt)
+
+pub define_tagged-prepared-requires : goal.define_tagged-prepared-requires
+define_tagged-prepared-requires g t c κs within = (search rules, (within, (c.requires.sound, (c.requires.left, c.moved.ensures.condition c.args.self.now.store c.requires.value))))
+
+pub define_tagged-returns-in_err-sides-clause-played : goal.define_tagged-returns-in_err-sides-clause-played
+define_tagged-returns-in_err-sides-clause-played g t c =
+    let l = plain c.args.left.now in
+    let v = plain c.args.value.now in
+    subst (λ p. Played itself p c.args.self.now c.from_residual.result c.prepared.new.self) (sym (define_tagged_sides c.args.name.now l v _ (c.moved.ensures.moved l)))
+    (exit prepared_side itself _ _ _ _ _ _ c.from_residual.ensures.1 c.in_err-sides.ensures.played)
+
+pub define_tagged-define_tagged_by-requires : goal.define_tagged-define_tagged_by-requires
+define_tagged-define_tagged_by-requires g t c =
+    let m = c.in_ok-sides.ensures.played in
+    record { sound = m.0.sound c.requires.sound; name = c.requires.name; left = m.1; body = later m.0 _ (c.moved.ensures.body c.args.self.now.store c.requires.value) }
+
+pub define_tagged-returns-clause-played : goal.define_tagged-returns-clause-played
+define_tagged-returns-clause-played g t c =
+    let l = plain c.args.left.now in
+    let v = plain c.args.value.now in
+    (subst (λ p. Plays p c.args.self.now (Ok c.in_ok-define_tagged_by.field-0) c.define_tagged_by.new.self false) (sym (define_tagged_sides c.args.name.now l v _ (c.moved.ensures.moved l)))
+    (plays_bind _ _ c.in_ok-sides.ensures.played.0 c.in_ok-define_tagged_by.ensures.played), tt)
+
+-- ---- the rows that define
+
+pub set_row-returns-in_default-clause-played : goal.set_row-returns-in_default-clause-played
+set_row-returns-in_default-clause-played g t c = row_stays _ _ (set_row-by (trees c.args.args.now) ∙ ap (by set_both) (sym c.in_default.ensures.value))
+
+pub set_row-set-requires : goal.set_row-set-requires
+set_row-set-requires g t c κs within =
+    (omega (arith, c.depth-depth.ensures.fits.shallow), (within, (c.requires.sound, c.in-Some.ensures.honest c.args.self.now.store c.requires.args)))
+
+pub set_row-returns-in_err-set-clause-played : goal.set_row-returns-in_err-set-clause-played
+set_row-returns-in_err-set-clause-played g t c =
+    read_some set_both _ _ (set_row-by (trees c.args.args.now)) c.args.self.now _ _ _ (sym c.in-Some.ensures.value) (row_exit itself _ _ _ _ _ _ c.from_residual.ensures.1 c.in_err-set.ensures.played)
+
+pub set_row-returns-clause-played : goal.set_row-returns-clause-played
+set_row-returns-clause-played g t c =
+    let k = c.args.self.now in
+    let es = trees c.args.args.now in
+    let v = c.in-Some.value.now in
+    let h = c.in_ok-set.ensures.played.0 in
+    subst (λ z. Played found_tree (sized_row (definitions.set_row es)) k (Ok (Some z)) c.set.new.self) (sym c.in_ok-copy.ensures)
+    (read_some set_both _ _ (set_row-by es) k _ (Ok (Some v)) _ (sym c.in-Some.ensures.value) (row_gives _ _ _ v (plays_bind _ _ h plays_done) ((fits_decides (plain v)).1 c.weight-weight.ensures.fits) (later h _ (c.in-Some.ensures.honest k.store c.requires.args).1)))
+
+pub set_delayed_row-returns-in_default-clause-played : goal.set_delayed_row-returns-in_default-clause-played
+set_delayed_row-returns-in_default-clause-played g t c = row_stays _ _ (set_delayed_row-by (trees c.args.args.now) ∙ ap (by delay_both) (sym c.in_default.ensures.value))
+
+pub set_delayed_row-define-requires : goal.set_delayed_row-define-requires
+set_delayed_row-define-requires g t c κs within = (search rules, (within, (c.requires.sound, c.in-Some.ensures.honest c.args.self.now.store c.requires.args)))
+
+pub set_delayed_row-returns-in_err-is_refused-clause-played : goal.set_delayed_row-returns-in_err-is_refused-clause-played
+set_delayed_row-returns-in_err-is_refused-clause-played g t c =
+    read_some delay_both _ _ (set_delayed_row-by (trees c.args.args.now)) c.args.self.now _ _ _ (sym c.in-Some.ensures.value) (row_exit itself _ _ _ _ _ _ c.from_residual.ensures.1 c.in_err-is_refused.ensures.played)
+
+pub set_delayed_row-returns-clause-played : goal.set_delayed_row-returns-clause-played
+set_delayed_row-returns-clause-played g t c =
+    read_some delay_both _ _ (set_delayed_row-by (trees c.args.args.now)) c.args.self.now _ _ _ (sym c.in-Some.ensures.value) (row_refusal _ c.in_ok-is_refused.is_refused _ _ c.in_ok-refusal.field-0 c.in_ok-refusal.ensures c.in_ok-is_refused.ensures.played.0)
+
+pub unset_row-returns-in_default-clause-played : goal.unset_row-returns-in_default-clause-played
+unset_row-returns-in_default-clause-played g t c = row_stays _ _ (unset_row-by (trees c.args.args.now) ∙ ap (by unset_one) (sym c.in_default.ensures.value))
+
+pub unset_row-prepared-requires : goal.unset_row-prepared-requires
+unset_row-prepared-requires g t c κs within = (search rules, (within, (c.requires.sound, (c.in-Some.ensures.honest c.args.self.now.store c.requires.args, tt))))
+
+pub unset_row-returns-in_err-sides-clause-played : goal.unset_row-returns-in_err-sides-clause-played
+unset_row-returns-in_err-sides-clause-played g t c =
+    read_some unset_one _ _ (unset_row-by (trees c.args.args.now)) c.args.self.now _ _ _ (sym c.in-Some.ensures.value) (row_exit prepared_side _ _ _ _ _ _ c.from_residual.ensures.1 c.in_err-sides.ensures.played)
+
+pub unset_row-unset_target-requires : goal.unset_row-unset_target-requires
+unset_row-unset_target-requires g t c = record { sound = c.in_ok-sides.ensures.played.0.sound c.requires.sound }
+
+pub unset_row-returns-clause-played : goal.unset_row-returns-clause-played
+unset_row-returns-clause-played g t c =
+    read_some unset_one _ _ (unset_row-by (trees c.args.args.now)) c.args.self.now _ _ _ (sym c.in-Some.ensures.value)
+    (row_taken _ c.in_ok-is_taken.is_taken _ _ c.in_ok-refusal.field-0 c.in_ok-refusal.ensures (plays_bind _ _ c.in_ok-sides.ensures.played.0 c.in_ok-is_taken.ensures.played))
+
+-- ---- the rows that define by tags
+
+pub up_set_row-returns-in_default-clause-played : goal.up_set_row-returns-in_default-clause-played
+up_set_row-returns-in_default-clause-played g t c = row_stays _ _ (up_set_row-by (trees c.args.args.now) ∙ ap (by up_both) (sym c.in_default.ensures.value))
+
+pub up_set_row-define_up-requires : goal.up_set_row-define_up-requires
+up_set_row-define_up-requires g t c κs within = (search rules, (within, (c.requires.sound, c.in-Some.ensures.honest c.args.self.now.store c.requires.args)))
+
+pub up_set_row-returns-in_err-_refused-clause-played : goal.up_set_row-returns-in_err-_refused-clause-played
+up_set_row-returns-in_err-_refused-clause-played g t c =
+    read_some up_both _ _ (up_set_row-by (trees c.args.args.now)) c.args.self.now _ _ _ (sym c.in-Some.ensures.value) (row_exit itself _ _ _ _ _ _ c.from_residual.ensures.1 c.in_err-_refused.ensures.played)
+
+pub up_set_row-returns-clause-played : goal.up_set_row-returns-clause-played
+up_set_row-returns-clause-played g t c =
+    let k = c.args.self.now in
+    let es = trees c.args.args.now in
+    let v = c.in-Some.value.now in
+    let h = c.in_ok-_refused.ensures.played.0 in
+    subst (λ z. Played found_tree (sized_row (definitions.up_set_row es)) k (Ok (Some z)) c.define_up.new.self) (sym c.in_ok-copy.ensures)
+    (read_some up_both _ _ (up_set_row-by es) k _ (Ok (Some v)) _ (sym c.in-Some.ensures.value) (row_gives _ _ _ v (plays_bind _ _ h plays_done) ((fits_decides (plain v)).1 c.weight-weight.ensures.fits) (later h _ (c.in-Some.ensures.honest k.store c.requires.args).1)))
+
+pub up_set_delayed_row-returns-in_default-clause-played : goal.up_set_delayed_row-returns-in_default-clause-played
+up_set_delayed_row-returns-in_default-clause-played g t c = row_stays _ _ (up_set_delayed_row-by (trees c.args.args.now) ∙ ap (by up_delay_both) (sym c.in_default.ensures.value))
+
+pub up_set_delayed_row-define_up-requires : goal.up_set_delayed_row-define_up-requires
+up_set_delayed_row-define_up-requires g t c κs within = (search rules, (within, (c.requires.sound, c.in-Some.ensures.honest c.args.self.now.store c.requires.args)))
+
+pub up_set_delayed_row-returns-in_err-is_refused-clause-played : goal.up_set_delayed_row-returns-in_err-is_refused-clause-played
+up_set_delayed_row-returns-in_err-is_refused-clause-played g t c =
+    read_some up_delay_both _ _ (up_set_delayed_row-by (trees c.args.args.now)) c.args.self.now _ _ _ (sym c.in-Some.ensures.value) (row_exit itself _ _ _ _ _ _ c.from_residual.ensures.1 c.in_err-is_refused.ensures.played)
+
+pub up_set_delayed_row-returns-clause-played : goal.up_set_delayed_row-returns-clause-played
+up_set_delayed_row-returns-clause-played g t c =
+    read_some up_delay_both _ _ (up_set_delayed_row-by (trees c.args.args.now)) c.args.self.now _ _ _ (sym c.in-Some.ensures.value) (row_refusal _ c.in_ok-is_refused.is_refused _ _ c.in_ok-refusal.field-0 c.in_ok-refusal.ensures c.in_ok-is_refused.ensures.played.0)
+
+pub tag_set_row-returns-in_default-clause-played : goal.tag_set_row-returns-in_default-clause-played
+tag_set_row-returns-in_default-clause-played g t c = row_stays _ _ (tag_set_row-by (trees c.args.args.now) ∙ ap (by tag_three) (sym c.in_default.ensures.value))
+
+pub tag_set_row-value_of-requires : goal.tag_set_row-value_of-requires
+tag_set_row-value_of-requires g t c κs within = (search rules, (within, (c.requires.sound, (c.in-Some.ensures.honest c.args.self.now.store c.requires.args).1)))
+
+pub tag_set_row-returns-in_err-value-clause-played : goal.tag_set_row-returns-in_err-value-clause-played
+tag_set_row-returns-in_err-value-clause-played g t c =
+    read_some tag_three _ _ (tag_set_row-by (trees c.args.args.now)) c.args.self.now _ _ _ (sym c.in-Some.ensures.value) (row_exit value _ _ _ _ _ _ c.from_residual.ensures.1 c.in_err-value.ensures.played)
+
+pub tag_set_row-define_tagged-requires : goal.tag_set_row-define_tagged-requires
+tag_set_row-define_tagged-requires g t c κs within =
+    let h = c.in-Some.ensures.honest c.args.self.now.store c.requires.args in
+    let v = c.in_ok-value.ensures.played in
+    (search rules, (within, (v.0.sound c.requires.sound, (c.in-Some.ensures.name, (later v.0 _ h.0, v.1.0)))))
+
+pub tag_set_row-returns-in_err-_refused-clause-played : goal.tag_set_row-returns-in_err-_refused-clause-played
+tag_set_row-returns-in_err-_refused-clause-played g t c =
+    read_some tag_three _ _ (tag_set_row-by (trees c.args.args.now)) c.args.self.now _ _ _ (sym c.in-Some.ensures.value)
+    (exit found_tree found_tree _ _ _ _ _ _ c.from_residual-in_err-_refused.ensures.1 (played_bind found_tree _ _ _ _ _ _ _ c.in_ok-value.ensures.played.0 (played_stop itself found_tree _ _ _ _ _ c.in_err-_refused.ensures.played)))
+
+pub tag_set_row-returns-clause-played : goal.tag_set_row-returns-clause-played
+tag_set_row-returns-clause-played g t c =
+    let v = c.in_ok-value.ensures.played in
+    let e = c.in_ok-value.value in
+    let h = c.in_ok-_refused.ensures.played.0 in
+    read_some tag_three _ _ (tag_set_row-by (trees c.args.args.now)) c.args.self.now _ _ _ (sym c.in-Some.ensures.value)
+    (row_gives _ _ _ e (plays_bind _ _ v.0 (plays_bind _ _ h plays_done)) ((fits_decides (plain e)).1 c.weight-weight.ensures.fits) (later h _ v.1.0))
+
+pub tag_set_delayed_row-returns-in_default-clause-played : goal.tag_set_delayed_row-returns-in_default-clause-played
+tag_set_delayed_row-returns-in_default-clause-played g t c = row_stays _ _ (tag_set_delayed_row-by (trees c.args.args.now) ∙ ap (by tag_delay_three) (sym c.in_default.ensures.value))
+
+pub tag_set_delayed_row-define_tagged-requires : goal.tag_set_delayed_row-define_tagged-requires
+tag_set_delayed_row-define_tagged-requires g t c κs within =
+    (search rules, (within, (c.requires.sound, (c.in-Some.ensures.name, c.in-Some.ensures.honest c.args.self.now.store c.requires.args))))
+
+pub tag_set_delayed_row-returns-in_err-is_refused-clause-played : goal.tag_set_delayed_row-returns-in_err-is_refused-clause-played
+tag_set_delayed_row-returns-in_err-is_refused-clause-played g t c =
+    read_some tag_delay_three _ _ (tag_set_delayed_row-by (trees c.args.args.now)) c.args.self.now _ _ _ (sym c.in-Some.ensures.value) (row_exit itself _ _ _ _ _ _ c.from_residual.ensures.1 c.in_err-is_refused.ensures.played)
+
+pub tag_set_delayed_row-returns-clause-played : goal.tag_set_delayed_row-returns-clause-played
+tag_set_delayed_row-returns-clause-played g t c =
+    read_some tag_delay_three _ _ (tag_set_delayed_row-by (trees c.args.args.now)) c.args.self.now _ _ _ (sym c.in-Some.ensures.value) (row_refusal _ c.in_ok-is_refused.is_refused _ _ c.in_ok-refusal.field-0 c.in_ok-refusal.ensures c.in_ok-is_refused.ensures.played.0)
+
+pub tag_unset_row-returns-in_default-clause-played : goal.tag_unset_row-returns-in_default-clause-played
+tag_unset_row-returns-in_default-clause-played g t c = row_stays _ _ (tag_unset_row-by (trees c.args.args.now) ∙ ap (by tag_unset) (sym c.in_default.ensures.value))
+
+pub tag_unset_row-prepared-requires : goal.tag_unset_row-prepared-requires
+tag_unset_row-prepared-requires g t c κs within = (search rules, (within, (c.requires.sound, (c.in-Some.ensures.honest c.args.self.now.store c.requires.args, tt))))
+
+pub tag_unset_row-returns-in_err-sides-clause-played : goal.tag_unset_row-returns-in_err-sides-clause-played
+tag_unset_row-returns-in_err-sides-clause-played g t c =
+    read_some tag_unset _ _ (tag_unset_row-by (trees c.args.args.now)) c.args.self.now _ _ _ (sym c.in-Some.ensures.value) (row_exit prepared_side _ _ _ _ _ _ c.from_residual.ensures.1 c.in_err-sides.ensures.played)
+
+pub tag_unset_row-unset_tagged-requires : goal.tag_unset_row-unset_tagged-requires
+tag_unset_row-unset_tagged-requires g t c = record { sound = c.in_ok-sides.ensures.played.0.sound c.requires.sound; name = c.in-Some.ensures.name }
+
+pub tag_unset_row-returns-clause-played : goal.tag_unset_row-returns-clause-played
+tag_unset_row-returns-clause-played g t c =
+    read_some tag_unset _ _ (tag_unset_row-by (trees c.args.args.now)) c.args.self.now _ _ _ (sym c.in-Some.ensures.value)
+    (row_taken _ c.in_ok-is_taken.is_taken _ _ c.in_ok-refusal.field-0 c.in_ok-refusal.ensures (plays_bind _ _ c.in_ok-sides.ensures.played.0 c.in_ok-is_taken.ensures.played))
+
+-- ---- left sides that are set
+
+pub set_one-set_message-requires : goal.set_one-set_message-requires
+set_one-set_message-requires g t c = record { sound = c.requires.sound; name = c.in-Some.ensures.name; value = sym c.in-Text.ensures.plain }
+
+pub set_one-returns-in-Some-clause-played : goal.set_one-returns-in-Some-clause-played
+set_one-returns-in-Some-clause-played g t c =
+    let l = plain c.args.left.now in
+    let k = c.args.self.now in
+    let k1 = c.set_message.new.self in
+    (subst (λ v. Plays (set_one l v) k (Ok tt) k1 false) c.in-Text.ensures.plain (subst (λ p. Plays p k (Ok tt) k1 false) (sym (set_text l _ c.in-Text.text.now c.in-Some.ensures.value)) c.in_ok-set_message.ensures.played), tt)
+
+pub set-returns-in_default-clause-played : goal.set-returns-in_default-clause-played
+set-returns-in_default-clause-played g t c =
+    subst (λ p. Played itself p c.args.self.now c.set_one.result c.set_one.new.self) (sym (set_single (plain c.args.left.now) (plain c.args.value.now) c.in_default.ensures.value)) c.set_one.ensures.played
+
+pub set-returns-in_default-same_shape-clause-played : goal.set-returns-in_default-same_shape-clause-played
+set-returns-in_default-same_shape-clause-played g t c =
+    let l = plain c.args.left.now in
+    let v = plain c.args.value.now in
+    (subst (λ p. Plays p c.args.self.now (Ok tt) c.tell_shape.new.self false) (sym (set_shape l v c.in-Some.lefts.now None c.in-Some.ensures.value c.in_default-same_shape.ensures.value)) c.in_ok-tell_shape.ensures.played, tt)
+
+pub set-loop-i-init : goal.set-loop-i-init
+set-loop-i-init g t c =
+    let k = c.args.self.now in
+    let l = plain c.args.left.now in
+    let v = plain c.args.value.now in
+    let values = c.in-Some-2.values.now in
+    record {
+      leads = λ r k2 o h. subst (λ p. Plays p k r k2 o) (sym (set_shape l v c.in-Some.lefts.now (Some (trees values)) c.in-Some.ensures.value c.in-Some-2.ensures.value)) h;
+      sound = c.requires.sound;
+      lefts = c.in-Some.ensures.honest k.store c.requires.left;
+      values = c.in-Some-2.ensures.honest k.store c.requires.value;
+      falls = omega arith;
+    }
+
+pub set-set-requires : goal.set-set-requires
+set-set-requires g t c κs within =
+    let l = c.loop-i in
+    let lefts = c.in-Some.lefts.now in
+    let values = c.in-Some-2.values.now in
+    let x = c.index-lefts-i.result in
+    let d = element_depth lefts l.i x (omega arith) c.index-lefts-i.is in
+    let p = ap depths (plains_trees lefts) in
+    (
+      omega (arith, d, p, c.in-Some.ensures.falls, l.invariant.falls),
+      (within, (l.invariant.sound, (subst (Honest l.self) (sym c.index-lefts-i.is) (l.invariant.lefts l.i x (omega arith)), subst (Honest l.self) (sym c.index-values-i.is) (l.invariant.values l.i c.index-values-i.result (omega (arith, c.in-Some-2.ensures.count)))))),
+    )
+
+pub set-returns-in_err-set-clause-played : goal.set-returns-in_err-set-clause-played
+set-returns-in_err-set-clause-played g t c =
+    let l = c.loop-i in
+    leads_out itself itself _ _ _ _ _ _ _ _ _ l.invariant.leads
+    (set_at c.in-Some.lefts.now c.in-Some-2.values.now l.i c.index-lefts-i.result c.index-values-i.result (omega arith) c.in-Some-2.ensures.count c.index-lefts-i.is c.index-values-i.is) c.from_residual-in_err-set.ensures.1 c.in_err-set.ensures.played
+
+pub set-loop-i-preserved : goal.set-loop-i-preserved
+set-loop-i-preserved g t c =
+    let l = c.loop-i in
+    let h = c.in_ok-set.ensures.played.0 in
+    record {
+      leads = set_step c.in-Some.lefts.now c.in-Some-2.values.now l.i c.index-lefts-i.result c.index-values-i.result (omega arith) c.in-Some-2.ensures.count c.index-lefts-i.is c.index-values-i.is l.invariant.leads h;
+      sound = h.sound l.invariant.sound;
+      lefts = all_later h _ l.invariant.lefts;
+      values = all_later h _ l.invariant.values;
+      falls = omega (arith, c.in_ok-set.ensures.falls, l.invariant.falls);
+    }
+
+pub set-returns-clause-played : goal.set-returns-clause-played
+set-returns-clause-played g t c = (set_over c.in-Some.lefts.now c.in-Some-2.values.now c.loop-i.i (omega arith) c.loop-i.invariant.leads, tt)
+
+-- ---- rows that give a symbol a new value
+
+pub changing-returns-in_err-old-clause-played : goal.changing-returns-in_err-old-clause-played
+changing-returns-in_err-old-clause-played g t c =
+    let a = c.args in
+    changing_stop (λ o v. kept_value a.keeps_old o v) (λ o. updated a.update o (plain a.by.now)) (plain a.subject.now) a.self.now _ _ _ c.from_residual.ensures.1 c.in_err-old.ensures.played
+
+pub changing-returns-then-same-clause-played : goal.changing-returns-then-same-clause-played
+changing-returns-then-same-clause-played g t c =
+    let a = c.args in
+    let o = plain c.in_ok-old.old in
+    changing_none (λ o v. kept_value a.keeps_old o v) (λ o. updated a.update o (plain a.by.now)) (plain a.subject.now) a.self.now o _ c.in_ok-old.ensures.played.0 (sym (same_answer c.same.result o (plain a.subject.now) c.same.ensures) ∙ c.if-same.true)
+
+pub changing-value_of_built-requires : goal.changing-value_of_built-requires
+changing-value_of_built-requires g t c κs within =
+    let h = c.in_ok-old.ensures.played in
+    let s = c.value_of.new.self.store in
+    (search rules, (within, (h.0.sound c.requires.sound, c.of_made-assignment.ensures.honest s (later h.0 _ c.requires.subject) (c.updated-made.ensures.honest s h.1.0 (later h.0 _ c.requires.by)))))
+
+pub changing-returns-in_err-new-clause-played : goal.changing-returns-in_err-new-clause-played
+changing-returns-in_err-new-clause-played g t c =
+    let a = c.args in
+    let o = plain c.in_ok-old.old in
+    let s = sym (same_answer c.same.result o (plain a.subject.now) c.same.ensures) ∙ c.if-same.false in
+    new_stop (λ o v. kept_value a.keeps_old o v) (λ o. updated a.update o (plain a.by.now)) (plain a.subject.now) a.self.now o _ c.in_ok-old.ensures.played.0 _ _ _ c.from_residual-in_err-new.ensures.1 s
+    (c.in_err-new.ensures.played _ (c.of_made-assignment.ensures.made _ c.updated-made.ensures.made))
+
+pub changing-returns-clause-played : goal.changing-returns-clause-played
+changing-returns-clause-played g t c =
+    let a = c.args in
+    let old = c.in_ok-old.old in
+    let o = plain old in
+    let new = c.in_ok-new.new in
+    let h = c.in_ok-old.ensures.played in
+    let v = c.in_ok-new.ensures.played _ (c.of_made-assignment.ensures.made _ c.updated-made.ensures.made) in
+    let s = sym (same_answer c.same.result o (plain a.subject.now) c.same.ensures) ∙ c.if-same.false in
+    let e = c.chosen.result in
+    new_given (λ o v. kept_value a.keeps_old o v) (λ o. updated a.update o (plain a.by.now)) (plain a.subject.now) a.self.now o _ h.0 (plain new) e c.value_of_built.new.self s v.0
+    (chosen_is a.keeps_old old new e c.chosen.ensures.same) c.chosen.ensures.fits (chosen_honest c.value_of_built.new.self a.keeps_old old new e c.chosen.ensures.same (later v.0 _ h.1.0) v.1.0)
+
+pub update_row-returns-in_default-clause-played : goal.update_row-returns-in_default-clause-played
+update_row-returns-in_default-clause-played g t c =
+    let new = λ o v. updated c.args.update o v in
+    row_stays _ _ (changing_by-by new (trees c.args.args.now) ∙ ap (by (changed_both new)) (sym c.in_default.ensures.value))
+
+pub update_row-changing-requires : goal.update_row-changing-requires
+update_row-changing-requires g t c κs within = (search rules, (within, (c.requires.sound, c.in-Some.ensures.honest c.args.self.now.store c.requires.args)))
+
+pub update_row-returns-clause-played : goal.update_row-returns-clause-played
+update_row-returns-clause-played g t c =
+    let new = λ o v. updated c.args.update o v in
+    read_some (changed_both new) _ _ (changing_by-by new (trees c.args.args.now)) c.args.self.now _ _ _ (sym c.in-Some.ensures.value) c.changing.ensures.played
+
+pub step_row-returns-in_default-clause-played : goal.step_row-returns-in_default-clause-played
+step_row-returns-in_default-clause-played g t c =
+    let keep = λ o v. kept_value c.args.keeps_old o v in
+    let v = one c.args.is_negative in
+    row_stays _ _ (stepping-by keep v (trees c.args.args.now) ∙ ap (by (λ x. definitions.changing keep (λ o. definitions.plus o v) x)) (sym c.in_default.ensures.value))
+
+pub step_row-changing-requires : goal.step_row-changing-requires
+step_row-changing-requires g t c κs within =
+    let s = c.args.self.now.store in
+    (search rules, (within, (c.requires.sound, (c.in-Some.ensures.honest s c.requires.args, c.in_ok-by.ensures.honest s))))
+
+pub step_row-returns-clause-played : goal.step_row-returns-clause-played
+step_row-returns-clause-played g t c =
+    let keep = λ o v. kept_value c.args.keeps_old o v in
+    let v = one c.args.is_negative in
+    read_some (λ x. definitions.changing keep (λ o. definitions.plus o v) x) _ _ (stepping-by keep v (trees c.args.args.now)) c.args.self.now _ _ _ (sym c.in-Some.ensures.value)
+    (subst (λ z. Played found_tree (sized_row (definitions.changing keep (λ o. definitions.plus o z) (plain c.in-Some.subject.now))) c.args.self.now c.changing.result c.changing.new.self) c.in_ok-by.ensures.value c.changing.ensures.played)
