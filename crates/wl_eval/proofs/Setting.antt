@@ -4,7 +4,7 @@ use Rattle.std.proofs.lemmas.List.{drop_all, length-map}
 use Rattle.std.specs.Prelude.{codes, nat_eq}
 use Rattle.wl_assign.specs.Targets.{target}
 use Rattle.wl_expr.specs.Stamped as stamped
-use Rattle.wl_expr.specs.Stamped.{Stamped, plain}
+use Rattle.wl_expr.specs.Stamped.{Stamped, plain, plains}
 use Rattle.wl_expr.specs.Tree.{Tree, Trees, num, text, symbol, node, none, more, to_list, from_list, from_list_to_list}
 use Rattle.wl_expr.specs.Words.{Name, Bytes, form, is_the, is_list, elements, failed_symbol, null_symbol}
 use Rattle.wl_shape.specs.Elements.{list_elements}
@@ -25,6 +25,7 @@ use Rattle.wl_eval.proofs.Preparing.{within_under}
 use Rattle.wl_eval.proofs.RowParts.{row_gives}
 use Rattle.wl_eval.proofs.Rows.{leads_bind}
 use Rattle.wl_eval.proofs.Shapings.{next_of}
+use Rattle.wl_eval.proofs.Values.{list_of_plains}
 
 -- ---- one left side
 
@@ -186,6 +187,11 @@ module _ (ls vs : List Stamped) (i : ℕ) where
 
   pub set_over : {w : Prog (Unit {0})} {k k1 : Evaluator} → length ls ≤ i → Leads w k (set_each (from_list (trees (drop i ls))) (trees (drop i vs))) k1 → Plays w k (Ok tt) k1 false
   set_over {k1 = k1} b h = h _ _ _ (subst (λ z. Plays z k1 (Ok tt) k1 false) (sym (ap (λ (us : List Stamped). set_each (from_list (trees us)) (trees (drop i vs))) (drop_all i ls b) ∙ each_over (trees (drop i vs)))) plays_done)
+
+-- the elements of a list, where they were read
+pub list_read : (h t : Tree) (es : List Stamped) → is_the (codes "List") h ≡ true → node h (plains (stamped.from_list es)) ≡ t → Some (trees es) ≡ list_elements t
+list_read h t es e q =
+    ap Some (sym (list_of_plains es)) ∙ sym (ap (λ (b : Bool). elim b as (λ _. Option (List Tree)) [ true ↦ Some (to_list (plains (stamped.from_list es))) | false ↦ None ]) e) ∙ ap list_elements q
 
 -- ---- definitions
 

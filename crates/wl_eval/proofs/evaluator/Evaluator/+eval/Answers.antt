@@ -110,6 +110,8 @@ use Rattle.wl_eval.proofs.Preparing.{condition_later, leaf_core, node_core, made
 use Rattle.wl_eval.proofs.Setting.{define_sides, define_up_sides, define_tagged_sides, no_condition, row_refusal, row_taken, set_text, set_single, set_shape, set_at, set_step, set_over}
 use Rattle.wl_eval.proofs.Updating.{changing_stop, changing_none, new_stop, new_given, chosen_is, chosen_honest}
 use Rattle.wl_eval.proofs.DefiningRows.{by, read_some, set_both, set_row-by, delay_both, set_delayed_row-by, up_both, up_set_row-by, up_delay_both, up_set_delayed_row-by, unset_one, unset_row-by, changed_both, changing_by-by, stepping-by, tag_three, tag_set_row-by, tag_delay_three, tag_set_delayed_row-by, tag_unset, tag_unset_row-by}
+use Rattle.wl_eval.proofs.MatchRowParts.{row_count}
+use Rattle.wl_eval.proofs.ReplaceRowParts.{replacing_stops}
 use Rattle.wl_eval.proofs.evaluator.Evaluator.+eval.Goals as goal
 
 -- ---- which rule applies
@@ -2828,3 +2830,128 @@ step_row-returns-clause-played g t c =
     let v = one c.args.is_negative in
     read_some (λ x. definitions.changing keep (λ o. definitions.plus o v) x) _ _ (stepping-by keep v (trees c.args.args.now)) c.args.self.now _ _ _ (sym c.in-Some.ensures.value)
     (subst (λ z. Played found_tree (sized_row (definitions.changing keep (λ o. definitions.plus o z) (plain c.in-Some.subject.now))) c.args.self.now c.changing.result c.changing.new.self) c.in_ok-by.ensures.value c.changing.ensures.played)
+
+-- ---- the rest of the rows of matches
+
+pub match_row-returns-in_default-clause-played : goal.match_row-returns-in_default-clause-played
+match_row-returns-in_default-clause-played g t c = pair_stays match_rows.match_row c.args.args.now c.args.self.now c.in_default.ensures refl (λ x. refl) (λ x y z ts. refl)
+
+pub match_row-matches-requires : goal.match_row-matches-requires
+match_row-matches-requires g t c κs within =
+    let h = pair_honest c.args.self.now c.args.args.now c.in-Some.e.now c.in-Some.p.now c.in-Some.ensures c.requires.args in
+    (search rules, (within, (c.requires.sound, (h.1, h.0))))
+
+pub match_row-returns-clause-played : goal.match_row-returns-clause-played
+match_row-returns-clause-played g t c =
+    let h = (c.in_ok-found.ensures.played (2 ^ 64) (omega arith)).0 in
+    pair_row found_tree match_rows.match_row c.args.args.now c.in-Some.e.now c.in-Some.p.now _ _ _ c.in-Some.ensures (row_truth _ (λ b. b) _ _ c.in_ok-found.found c.in_ok-truth.field-0 h c.in_ok-truth.ensures)
+
+pub member_row-returns-in_default-clause-played : goal.member_row-returns-in_default-clause-played
+member_row-returns-in_default-clause-played g t c = pair_stays match_rows.member_row c.args.args.now c.args.self.now c.in_default.ensures refl (λ x. refl) (λ x y z ts. refl)
+
+pub member_row-returns-in_err-found-clause-played : goal.member_row-returns-in_err-found-clause-played
+member_row-returns-in_err-found-clause-played g t c =
+    let e = c.in-Some.e.now in
+    let p = c.in-Some.p.now in
+    let m = subst (λ ts. Played itself (match_rows.any_matches (plain p) ts) c.args.self.now (Err c.in_err-found.field-0.0) c.any_matches.new.self) c.elements.ensures.value c.in_err-found.ensures.played in
+    pair_row found_tree match_rows.member_row c.args.args.now e p _ _ _ c.in-Some.ensures (row_exit itself _ _ _ _ _ _ c.from_residual.ensures.1 m)
+
+pub member_row-returns-clause-played : goal.member_row-returns-clause-played
+member_row-returns-clause-played g t c =
+    let e = c.in-Some.e.now in
+    let p = c.in-Some.p.now in
+    let h = subst (λ ts. Plays (match_rows.any_matches (plain p) ts) c.args.self.now (Ok c.in_ok-found.found) c.any_matches.new.self false) c.elements.ensures.value c.in_ok-found.ensures.played.0 in
+    pair_row found_tree match_rows.member_row c.args.args.now e p _ _ _ c.in-Some.ensures (row_truth _ (λ b. b) _ _ c.in_ok-found.found c.in_ok-truth.field-0 h c.in_ok-truth.ensures)
+
+pub count_row-returns-in_default-clause-played : goal.count_row-returns-in_default-clause-played
+count_row-returns-in_default-clause-played g t c = pair_stays match_rows.count_row c.args.args.now c.args.self.now c.in_default.ensures refl (λ x. refl) (λ x y z ts. refl)
+
+pub count_row-returns-in_err-count-clause-played : goal.count_row-returns-in_err-count-clause-played
+count_row-returns-in_err-count-clause-played g t c =
+    let e = c.in-Some.e.now in
+    let p = c.in-Some.p.now in
+    let m = subst (λ ts. Played itself (match_rows.count_matching 0 (plain p) ts) c.args.self.now (Err c.in_err-count.field-0.0) c.count_matching.new.self) c.elements.ensures.value c.in_err-count.ensures.played in
+    pair_row found_tree match_rows.count_row c.args.args.now e p _ _ _ c.in-Some.ensures (row_exit itself _ _ _ _ _ _ c.from_residual.ensures.1 m)
+
+pub count_row-returns-clause-played : goal.count_row-returns-clause-played
+count_row-returns-clause-played g t c =
+    let e = c.in-Some.e.now in
+    let p = c.in-Some.p.now in
+    let h = subst (λ ts. Plays (match_rows.count_matching 0 (plain p) ts) c.args.self.now (Ok c.in_ok-count.count) c.count_matching.new.self false) c.elements.ensures.value c.in_ok-count.ensures.played.0 in
+    pair_row found_tree match_rows.count_row c.args.args.now e p _ _ _ c.in-Some.ensures (row_count _ _ _ c.in_ok-count.count c.in_ok-natural.field-0 h c.in_ok-natural.ensures)
+
+pub cases_row-returns-in_default-clause-played : goal.cases_row-returns-in_default-clause-played
+cases_row-returns-in_default-clause-played g t c = pair_stays match_rows.cases_row c.args.args.now c.args.self.now c.in_default.ensures refl (λ x. refl) (λ x y z ts. refl)
+
+pub delete_cases_row-returns-in_default-clause-played : goal.delete_cases_row-returns-in_default-clause-played
+delete_cases_row-returns-in_default-clause-played g t c = pair_stays match_rows.delete_cases_row c.args.args.now c.args.self.now c.in_default.ensures refl (λ x. refl) (λ x y z ts. refl)
+
+pub delete_cases_row-returns-in_default-view-clause-played : goal.delete_cases_row-returns-in_default-view-clause-played
+delete_cases_row-returns-in_default-view-clause-played g t c =
+    let k = c.args.self.now in
+    let e = c.in-Some.e.now in
+    let p = c.in-Some.p.now in
+    let h = pair_honest k c.args.args.now e p c.in-Some.ensures c.requires.args in
+    let q = delete_atom (plain e) (plain p) (no_node _ _ _ c.view.ensures.all c.in_default-view.not-Node) in
+    subst (λ z. Played found_tree (sized_row (match_rows.delete_cases_row (trees c.args.args.now))) k (Ok (Some z)) k) (sym c.in_ok-copy.ensures)
+    (pair_row found_tree match_rows.delete_cases_row c.args.args.now e p _ _ _ c.in-Some.ensures (row_at _ _ _ _ _ q (row_gives _ _ _ e plays_done ((fits_decides (plain e)).1 c.view.ensures.fits) h.0)))
+
+pub free_row-returns-in_default-clause-played : goal.free_row-returns-in_default-clause-played
+free_row-returns-in_default-clause-played g t c = pair_stays match_rows.free_row c.args.args.now c.args.self.now c.in_default.ensures refl (λ x. refl) (λ x y z ts. refl)
+
+pub free_row-any_part-requires : goal.free_row-any_part-requires
+free_row-any_part-requires g t c κs within =
+    let h = pair_honest c.args.self.now c.args.args.now c.in-Some.e.now c.in-Some.p.now c.in-Some.ensures c.requires.args in
+    (omega (arith, c.depth-depth.ensures.fits.shallow), (within, (c.requires.sound, (h.1, h.0))))
+
+pub free_row-returns-in_err-found-clause-played : goal.free_row-returns-in_err-found-clause-played
+free_row-returns-in_err-found-clause-played g t c =
+    pair_row found_tree match_rows.free_row c.args.args.now c.in-Some.e.now c.in-Some.p.now _ _ _ c.in-Some.ensures (row_exit itself _ _ _ _ _ _ c.from_residual.ensures.1 c.in_err-found.ensures.played)
+
+pub free_row-returns-clause-played : goal.free_row-returns-clause-played
+free_row-returns-clause-played g t c =
+    pair_row found_tree match_rows.free_row c.args.args.now c.in-Some.e.now c.in-Some.p.now _ _ _ c.in-Some.ensures (row_truth _ not _ _ c.in_ok-found.found c.in_ok-truth.field-0 c.in_ok-found.ensures.played.0 c.in_ok-truth.ensures)
+
+pub replace_row-returns-in_default-clause-played : goal.replace_row-returns-in_default-clause-played
+replace_row-returns-in_default-clause-played g t c = pair_stays match_rows.replace_row c.args.args.now c.args.self.now c.in_default.ensures refl (λ x. refl) (λ x y z ts. refl)
+
+pub replace_all_row-returns-in_default-clause-played : goal.replace_all_row-returns-in_default-clause-played
+replace_all_row-returns-in_default-clause-played g t c = pair_stays match_rows.replace_all_row c.args.args.now c.args.self.now c.in_default.ensures refl (λ x. refl) (λ x y z ts. refl)
+
+pub replace_repeated_row-returns-in_default-clause-played : goal.replace_repeated_row-returns-in_default-clause-played
+replace_repeated_row-returns-in_default-clause-played g t c = pair_stays match_rows.replace_repeated_row c.args.args.now c.args.self.now c.in_default.ensures refl (λ x. refl) (λ x y z ts. refl)
+
+pub replace_row-returns-in_err-found-clause-played : goal.replace_row-returns-in_err-found-clause-played
+replace_row-returns-in_err-found-clause-played g t c =
+    let e = c.in-Some.e.now in
+    let r = c.in-Some.r.now in
+    let rs = map plain_rule c.in-Some-2.rules.items in
+    let is = read_is c.in_ok-rules.field-0 c.in-Some-2.rules _ c.in-Some-2.is c.in_ok-rules.ensures.rules in
+    let same = ap (map plain_rule) c.as_slice.ensures.value in
+    let h = subst (λ zs. Played found_tree (matching.trial zs (plain e)) c.args.self.now (Err c.in_err-found.field-0.0) c.first_result.new.self) same c.in_err-found.ensures.played in
+    pair_row found_tree match_rows.replace_row c.args.args.now e r _ _ _ c.in-Some.ensures
+    (row_at _ _ _ _ _ (replace_is (plain e) (plain r) (Some rs) is) (row_exit found_tree _ _ _ _ _ _ c.from_residual-in_err-found.ensures.1 h))
+
+pub replace_row-returns-clause-played : goal.replace_row-returns-clause-played
+replace_row-returns-clause-played g t c =
+    let e = c.in-Some.e.now in
+    let r = c.in-Some.r.now in
+    let x = c.in-Some-found.result in
+    let rs = map plain_rule c.in-Some-2.rules.items in
+    let is = read_is c.in_ok-rules.field-0 c.in-Some-2.rules _ c.in-Some-2.is c.in_ok-rules.ensures.rules in
+    let same = ap (map plain_rule) c.as_slice.ensures.value in
+    let h = subst (λ zs. Played found_tree (matching.trial zs (plain e)) c.args.self.now (Ok c.in_ok-found.found) c.first_result.new.self) same c.in_ok-found.ensures.played in
+    let w = subst (λ o. Played found_tree (matching.trial rs (plain e)) c.args.self.now (Ok o) c.first_result.new.self) c.in-Some-found.is h in
+    pair_row found_tree match_rows.replace_row c.args.args.now e r _ _ _ c.in-Some.ensures
+    (row_at _ _ _ _ _ (replace_is (plain e) (plain r) (Some rs) is) (row_gives _ _ _ x (plays_bind (matching.trial rs (plain e)) _ w.0 plays_done) ((fits_decides (plain x)).1 c.weight-weight.ensures.fits) w.1))
+
+pub replace_all_row-returns-in_err-replaced-clause-played : goal.replace_all_row-returns-in_err-replaced-clause-played
+replace_all_row-returns-in_err-replaced-clause-played g t c =
+    let e = c.in-Some.e.now in
+    let r = c.in-Some.r.now in
+    let rs = map plain_rule c.in-Some-2.rules.items in
+    let is = read_is c.in_ok-rules.field-0 c.in-Some-2.rules _ c.in-Some-2.is c.in_ok-rules.ensures.rules in
+    let same = ap (map plain_rule) c.as_slice.ensures.value in
+    let h = subst (λ zs. Played (seen_replaced e) (replacing zs (plain e)) c.args.self.now (Err c.in_err-replaced.field-0.0) c.replace_all.new.self) same c.in_err-replaced.ensures.played in
+    pair_row found_tree match_rows.replace_all_row c.args.args.now e r _ _ _ c.in-Some.ensures
+    (row_at _ _ _ _ _ (replace_all_is (plain e) (plain r) (Some rs) is) (exit found_tree found_tree _ _ _ _ _ _ c.from_residual-in_err-replaced.ensures.1 (replacing_stops (seen_replaced e) found_tree rs (plain e) _ _ _ _ h)))

@@ -11,7 +11,7 @@ returns-in_ok-is_refused-in-Raw-clause-played g c =
     let a = c.args in
     let k1 = c.refused_raw.new.self in
     subst₂ (λ (t : definitions.Tagged) (w : Bool). Plays (definitions.unset_tagged a.name.now (left_side (plain a.left.now) (plain a.core.now)) t) a.self.now (Ok (Some (taken_answer (not w)))) k1 false)
-    c.in-Raw.ensures (sym c.in_ok-is_refused.ensures.refused) (fails_after (definitions.refused_raw (plain a.core.now)) c.in_ok-is_refused.is_refused a.self.now k1 c.in_ok-is_refused.ensures.played)
+    c.in-Raw.ensures (sym c.in_ok-is_refused-in-Raw.ensures.refused) (fails_after (definitions.refused_raw (plain a.core.now)) c.in_ok-is_refused-in-Raw.is_refused a.self.now k1 c.in_ok-is_refused-in-Raw.ensures.played)
 
 pub returns-in_ok-is_refused-in-NotFound-clause-played : goal.returns-in_ok-is_refused-in-NotFound-clause-played
 returns-in_ok-is_refused-in-NotFound-clause-played g c =
