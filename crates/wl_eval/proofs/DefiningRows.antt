@@ -85,7 +85,7 @@ stepping-by keep v (l ∷ []) = refl
 stepping-by keep v (l ∷ e ∷ es) = refl
 
 abbrev pub tag_three : Name × Tree × Tree → Prog (Option Tree)
-tag_three p = value_of p.1.1 >>= λ u. define_tagged p.0 p.1.0 u >>= λ _. result u
+tag_three p = value_of p.2 >>= λ u. define_tagged p.0 p.1 u >>= λ _. result u
 
 pub tag_set_row-by : (es : List Tree) → tag_set_row es ≡ by tag_three (name_and_two es)
 tag_set_row-by [] = refl
@@ -98,7 +98,7 @@ tag_set_row-by (symbol x ∷ l ∷ v ∷ []) = refl
 tag_set_row-by (symbol x ∷ l ∷ v ∷ e ∷ es) = refl
 
 abbrev pub tag_delay_three : Name × Tree × Tree → Prog (Option Tree)
-tag_delay_three p = delayed (define_tagged p.0 p.1.0 p.1.1)
+tag_delay_three p = delayed (define_tagged p.0 p.1 p.2)
 
 pub tag_set_delayed_row-by : (es : List Tree) → tag_set_delayed_row es ≡ by tag_delay_three (name_and_two es)
 tag_set_delayed_row-by [] = refl

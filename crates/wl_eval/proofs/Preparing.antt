@@ -113,11 +113,11 @@ unfit_within (num n) c e = e
 unfit_within (text s) c e = e
 unfit_within (symbol x) c e = e
 unfit_within (node h none) c e = e
-unfit_within (node h (more l ts)) c e = go (is_around (special_node h (to_list (more l ts))))
+unfit_within (node h (more l ts)) c e = go (is_around (special_node h (to_list (more l ts)))) (unfit_within l c e)
   where
-    go : (b : Bool) → fits (elim b [ true ↦ node h (more (with_core l c) ts) | false ↦ c ]) ≡ false
-    go true = unfit_first h (with_core l c) ts (unfit_within l c e)
-    go false = e
+    go : (b : Bool) → fits (with_core l c) ≡ false → fits (elim b [ true ↦ node h (more (with_core l c) ts) | false ↦ c ]) ≡ false
+    go true w = unfit_first h (with_core l c) ts w
+    go false w = e
 
 -- ---- sequences among elements
 
@@ -158,11 +158,11 @@ pub made_stop : {X A : Type 0} (seen : Seen X A) (p : Prog A) (f : A → Prog Tr
 made_stop seen p f k k1 r e h m = let q = err_from_is_err_and r h in subst (λ z. MadeBy (p >>= f) k z k1) (sym (q.1 ∙ ap Err q.2)) (played_stop seen honest_tree p f k e k1 m)
 
 pub made_bind : {A : Type 0} (p : Prog A) (f : A → Prog Tree) (k k1 : Evaluator) (a : A) (r : Result (Option Stamped) Stop) (k2 : Evaluator) → Plays p k (Ok a) k1 false → MadeBy (f a) k1 r k2 → MadeBy (p >>= f) k r k2
-made_bind p f k k1 a (Ok o) k2 h m = (m.0, (plays_bind p f h m.1.0, m.1.1))
+made_bind p f k k1 a (Ok o) k2 h m = (m.0, plays_bind p f h m.1, m.2, m.3)
 made_bind p f k k1 a (Err e) k2 h m = played_bind honest_tree p f k k1 a (Err e) k2 h m
 
 pub made_done : (t : Tree) (k : Evaluator) (o : Option Stamped) → Stands t o → HonestMaybe k o → MadeBy (done t) k (Ok o) k
-made_done t k o s h = (t, (plays_done, (s, h)))
+made_done t k o s h = (t, plays_done, s, h)
 
 pub core_leaf : (t : Tree) → is_node t ≡ false → evaluated_core t ≡ done t
 unfolding evaluated_core
@@ -210,10 +210,10 @@ not_node (node h ts) f = absurd (f h ts refl)
 
 pub leaf_core : (c e : Stamped) (k : Evaluator) → ((h : Tree) (ts : Trees) → plain c ≡ node h ts → ⊥) → e ≡ c → Honest k c → MadeBy (evaluated_core (plain c)) k (Ok (Some e)) k
 leaf_core c e k n q h =
-    (plain c, (subst (λ p. Plays p k (Ok (plain c)) k false) (sym (core_leaf (plain c) (not_node (plain c) n))) plays_done, (ap plain q, subst (Honest k) (sym q) h)))
+    (plain c, subst (λ p. Plays p k (Ok (plain c)) k false) (sym (core_leaf (plain c) (not_node (plain c) n))) plays_done, ap plain q, subst (Honest k) (sym q) h)
 
-pub node_core : (h c : Tree) (ts : List Stamped) {k k1 : Evaluator} {r : Result (Option Stamped) Stop} → node h (plains (from_list ts)) ≡ c → MadeBy (evaluated_core h >>= core_with (trees ts)) k r k1 → MadeBy (evaluated_core c) k r k1
-node_core h c ts {k} {k1} {r} q m =
+pub node_core : (h c : Tree) (ts : List Stamped) (k k1 : Evaluator) (r : Result (Option Stamped) Stop) → node h (plains (from_list ts)) ≡ c → MadeBy (evaluated_core h >>= core_with (trees ts)) k r k1 → MadeBy (evaluated_core c) k r k1
+node_core h c ts k k1 r q m =
     subst (λ z. MadeBy (evaluated_core z) k r k1) q
     (subst (λ p. MadeBy p k r k1) (sym (core_node h (plains (from_list ts)) ∙ ap (λ us. evaluated_core h >>= core_with us) (list_of_plains ts))) m)
 
@@ -222,10 +222,10 @@ pub unfit_attributes : (t : Tree) (k : Evaluator) (a : AttributeSet) → is_node
 unfit_attributes t k a n q = plays_no_attributes t a k (λ x e. true≢false (sym n ∙ ap is_node e)) q
 
 pub held_made : (l : Tree) (e : Stamped) (k : Evaluator) → is_held l ≡ true → plain e ≡ core l → Honest k e → MadeBy (core_of l) k (Ok (Some e)) k
-held_made l e k b q h = subst (λ p. MadeBy p k (Ok (Some e)) k) (sym (held_core l b)) (core l, (plays_done, (q, h)))
+held_made l e k b q h = subst (λ p. MadeBy p k (Ok (Some e)) k) (sym (held_core l b)) (core l, plays_done, q, h)
 
-pub open_made : (l c : Tree) {k k1 : Evaluator} {r : Result (Option Stamped) Stop} → is_held l ≡ false → c ≡ core l → MadeBy (evaluated_core c) k r k1 → MadeBy (core_of l) k r k1
-open_made l c {k} {k1} {r} b q m = subst (λ p. MadeBy p k r k1) (sym (open_core l b)) (subst (λ z. MadeBy (evaluated_core z) k r k1) q m)
+pub open_made : (l c : Tree) (k k1 : Evaluator) (r : Result (Option Stamped) Stop) → is_held l ≡ false → c ≡ core l → MadeBy (evaluated_core c) k r k1 → MadeBy (core_of l) k r k1
+open_made l c k k1 r b q m = subst (λ p. MadeBy p k r k1) (sym (open_core l b)) (subst (λ z. MadeBy (evaluated_core z) k r k1) q m)
 
 -- an honest condition is so later
 pub condition_later : {R : Type 0} {p : Prog R} {k k1 : Evaluator} {r : Result R End} {o : Bool} → Plays p k r k1 o → (c : Option (Bor Stamped)) → IfSome c (λ e. Honest k e.now) → IfSome c (λ e. Honest k1 e.now)

@@ -70,13 +70,17 @@ pub tags_over : (l : LeftSide) (b v : Tree) (refused : Bool) → define_tags l b
 unfolding define_tags
 tags_over l b v refused = refl
 
+slice_next : {X : Type 0} (xs : List X) (i : ℕ) (x : X) → slice_get xs i ≡ Some x → drop i xs ≡ x ∷ drop (suc i) xs
+slice_next [] i x e = absurd (let w : None ≡ Some x = e in cc)
+slice_next (y ∷ ys) zero x e = let w : Some y ≡ Some x = e in let q : y ≡ x = cc in ap (λ z. z ∷ ys) q
+slice_next (y ∷ ys) (suc i) x e = slice_next ys i x e
+
 slice_more : {X : Type 0} (xs : List X) (i : ℕ) (x : X) → slice_get xs i ≡ Some x → drop i xs ≡ x ∷ drop (i + 1) xs
-slice_more [] i x e = absurd (let w : None ≡ Some x = e in cc)
-slice_more (y ∷ ys) zero x e = let w : Some y ≡ Some x = e in let q : y ≡ x = cc in ap (λ z. z ∷ ys) q
-slice_more (y ∷ ys) (suc i) x e = rw add-one (slice_more ys i x e)
+slice_more xs i x e = rw add-one (slice_next xs i x e)
 
 slice_none : {X : Type 0} (xs : List X) (i : ℕ) → slice_get xs i ≡ None → drop i xs ≡ []
-slice_none [] i e = refl
+slice_none [] zero e = refl
+slice_none [] (suc i) e = refl
 slice_none (y ∷ ys) zero e = absurd (let w : Some y ≡ None = e in cc)
 slice_none (y ∷ ys) (suc i) e = slice_none ys i e
 
@@ -98,19 +102,20 @@ fails_after p b k k1 h = plays_bind p _ h plays_done
 
 length_first : (met xs : List Name) → length (first_names met xs) ≤ length met + length xs
 length_first met [] = omega arith
-length_first met (x ∷ xs) = go (is_name_among x met)
+length_first met (x ∷ xs) = go (is_name_among x met) (length_first met xs) (length_first (met ++ x ∷ []) xs)
   where
-    go : (b : Bool) → length (elim b [ true ↦ first_names met xs | false ↦ first_names (met ++ x ∷ []) xs ]) ≤ length met + length (x ∷ xs)
-    go true = omega (arith, length_first met xs)
-    go false = let a = length-append met (x ∷ []) in omega (arith, length_first (met ++ x ∷ []) xs)
+    go : (b : Bool) → length (first_names met xs) ≤ length met + length xs → length (first_names (met ++ x ∷ []) xs) ≤ length (met ++ x ∷ []) + length xs
+        → length (elim b [ true ↦ first_names met xs | false ↦ first_names (met ++ x ∷ []) xs ]) ≤ length met + length (x ∷ xs)
+    go true p q = omega (arith, p)
+    go false p q = let a = length-append met (x ∷ []) in omega (arith, q, a)
 
 length_some : {A B : Type 0} (f : A → Option B) (xs : List A) → length (filter_map f xs) ≤ length xs
 length_some f [] = omega arith
-length_some {A} {B} f (x ∷ xs) = go (f x) refl
+length_some {A} {B} f (x ∷ xs) = go (f x) refl (length_some f xs)
   where
-    go : (o : Option B) → f x ≡ o → length (filter_map f (x ∷ xs)) ≤ length (x ∷ xs)
-    go None e = rw e (omega (arith, length_some f xs))
-    go (Some y) e = rw e (omega (arith, length_some f xs))
+    go : (o : Option B) → f x ≡ o → length (filter_map f xs) ≤ length xs → length (filter_map f (x ∷ xs)) ≤ length (x ∷ xs)
+    go None e p = rw e (omega (arith, p))
+    go (Some y) e p = rw e (omega (arith, p))
 
 pub tags_past : (h c : Tree) (ts : List Stamped) (i : ℕ) → node h (plains (from_list ts)) ≡ c → length ts ≤ i → slice_get (tags c) i ≡ None
 tags_past h c ts i e l =

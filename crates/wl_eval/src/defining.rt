@@ -310,7 +310,7 @@ impl Evaluator {
                 return Ok(refused);
             };
             let is_refused = self.defined(RuleKind::Up, name, left, core, body, value, false, work)?;
-            refused = refused || is_refused;
+            refused |= is_refused;
         }
         Ok(refused)
     }

@@ -1,22 +1,24 @@
-use Rattle.std.proofs.Common.{rules, ◌≡◌, ◌≤◌, ◌<◌, ◌||◌, ◌∷◌, List, IfOk, IfSome, Ok, false, is_some, length, option_map, true, ℕ, ◌+◌, ◌-◌, ◌*◌, ◌/◌, ◌%◌, Bool, nat_eq, nat_lt, [], ◌++◌, slice_index_or, slice_set, bit_and, bit_or, Fits, w8, w32, w64, Bor, MutBor}
+use Rattle.std.proofs.Common.{◌≡◌, ◌∷◌, List, None, slice_set, sym, ap, ◌∙◌, subst}
+use Rattle.std.proofs.lemmas.List.Elements.{All-set}
 use Rattle.std.specs.List.{All}
-use Rattle.wl_expr.specs.Stamped.{Stamped, plain}
-use Rattle.wl_expr.specs.Tree.{Tree}
+use Rattle.wl_expr.specs.Stamped.{Stamped, from_list, node, plain}
 use Rattle.wl_expr.specs.Words.{applied}
-use Rattle.wl_rules.specs.Stored.{Stored}
-use Rattle.wl_shape.specs.Shape.{without_sequences}
-use Rattle.wl_eval.specs.Definitions as definitions
-use Rattle.wl_eval.specs.Prog as prog
-use Rattle.wl_eval.specs.Honest.{HonestIn, HonestOption}
-use Rattle.wl_eval.specs.LeftSides.{moved_condition, with_core}
-use Rattle.wl_eval.specs.Played.{Honest, Makes, Played, Plays, Sound, trees}
-use Rattle.wl_eval.specs.Prepared.{MadeBy, Stands, kept_sequences, prepared_side, sides_by, under}
+use Rattle.wl_eval.specs.Honest.{HonestIn}
+use Rattle.wl_eval.specs.Played.{Makes, trees}
+use Rattle.wl_eval.proofs.RowParts.{made_node, if_ok_more}
+use Rattle.wl_eval.proofs.Values.{built_honest}
 use Rattle.wl_eval.proofs.left_sides.with_first.Goals as goal
 
--- src/left_sides.rt:104:1
 pub returns-clause-made : goal.returns-clause-made
-returns-clause-made c = ?
+returns-clause-made c l ts e =
+    let h = c.args.head.now in
+    let f = c.args.first in
+    let same = c.as_slice.ensures.value ∙ ap (λ (xs : List Stamped). slice_set xs 0 f) (c.in_ok-changed.ensures ∙ e) in
+    subst (λ (us : List Stamped). Makes (applied (plain h) (trees us)) c.node.result) same (made_node h c.as_slice.result.now c.node.result c.node.ensures.ok c.node.ensures.large)
 
--- src/left_sides.rt:104:1
 pub returns-clause-honest : goal.returns-clause-honest
-returns-clause-honest c = ?
+returns-clause-honest c a x y z =
+    let h = c.args.head.now in
+    let es = c.as_slice.result.now in
+    let all = subst (All (HonestIn a)) (sym c.as_slice.ensures.value) (All-set (HonestIn a) c.in_ok-changed.changed.items 0 c.args.first y (subst (All (HonestIn a)) (sym c.in_ok-changed.ensures) z)) in
+    if_ok_more c.node.result (λ e. e ≡ node None h (from_list es)) (HonestIn a) (λ e w. subst (HonestIn a) (sym w) (built_honest a h es x all)) c.node.ensures.ok

@@ -2388,36 +2388,36 @@ evaluated_core-evaluated_core-requires g t c κs within =
 
 pub evaluated_core-returns-in_err-made-clause-played : goal.evaluated_core-returns-in_err-made-clause-played
 evaluated_core-returns-in_err-made-clause-played g t c =
-    node_core (plain c.in-Node.head.now) (plain c.args.core.now) c.in-Node.args.now c.in-Node.ensures.plain (made_stop honest_tree _ _ _ _ _ _ c.from_residual-in_err-made.ensures.1 c.in_err-made.ensures.played)
+    node_core (plain c.in-Node.head.now) (plain c.args.core.now) c.in-Node.args.now _ _ _ c.in-Node.ensures.plain (made_stop honest_tree _ _ _ _ _ _ c.from_residual-in_err-made.ensures.1 c.in_err-made.ensures.played)
 
 pub evaluated_core-attributes_of_made-requires : goal.evaluated_core-attributes_of_made-requires
-evaluated_core-attributes_of_made-requires g t c = record { sound = c.in_ok-made.ensures.played.1.0.sound c.requires.sound }
+evaluated_core-attributes_of_made-requires g t c = record { sound = c.in_ok-made.ensures.played.1.sound c.requires.sound }
 
 pub evaluated_core-elements-requires : goal.evaluated_core-elements-requires
 evaluated_core-elements-requires g t c κs within =
     let m = c.in_ok-made.ensures.played in
-    let w = c.in_ok-attributes.ensures.played m.0 m.1.1.0 in
-    (omega (arith, c.in_ok-made.ensures.falls, c.in_ok-attributes.ensures.kept), (within, (w.sound (m.1.0.sound c.requires.sound), all_later w _ (all_later m.1.0 _ (args_honest c.args.self.now.store _ _ _ _ c.in-Node.ensures.all c.requires.honest)))))
+    let w = c.in_ok-attributes.ensures.played m.0 m.2 in
+    (omega (arith, c.in_ok-made.ensures.falls, c.in_ok-attributes.ensures.kept), (within, (w.sound (m.1.sound c.requires.sound), all_later w _ (all_later m.1 _ (args_honest c.args.self.now.store _ _ _ _ c.in-Node.ensures.all c.requires.honest)))))
 
 pub evaluated_core-returns-in_err-values-clause-played : goal.evaluated_core-returns-in_err-values-clause-played
 evaluated_core-returns-in_err-values-clause-played g t c =
     let m = c.in_ok-made.ensures.played in
-    let w = c.in_ok-attributes.ensures.played m.0 m.1.1.0 in
-    node_core (plain c.in-Node.head.now) (plain c.args.core.now) c.in-Node.args.now c.in-Node.ensures.plain
-    (made_bind _ _ _ _ _ _ _ m.1.0 (made_bind _ _ _ _ _ _ _ w (made_stop (values c.in_ok-attributes.attributes) _ _ _ _ _ _ c.from_residual-in_err-values.ensures.1 c.in_err-values.ensures.played)))
+    let w = c.in_ok-attributes.ensures.played m.0 m.2 in
+    node_core (plain c.in-Node.head.now) (plain c.args.core.now) c.in-Node.args.now _ _ _ c.in-Node.ensures.plain
+    (made_bind _ _ _ _ _ _ _ m.1 (made_bind _ _ _ _ _ _ _ w (made_stop (values c.in_ok-attributes.attributes) _ _ _ _ _ _ c.from_residual-in_err-values.ensures.1 c.in_err-values.ensures.played)))
 
 pub evaluated_core-returns-clause-played : goal.evaluated_core-returns-clause-played
 evaluated_core-returns-clause-played g t c =
     let m = c.in_ok-made.ensures.played in
     let a = c.in_ok-attributes.attributes in
-    let w = c.in_ok-attributes.ensures.played m.0 m.1.1.0 in
+    let w = c.in_ok-attributes.ensures.played m.0 m.2 in
     let x = c.in_ok-values.ensures.played in
     let k = c.elements.new.self in
     let made = c.in_ok-core_made.field-0 in
-    let stands = subst (λ zs. Stands (applied m.0 (without_sequences a (trees zs))) made) c.as_slice.ensures.value (c.in_ok-core_made.ensures.made m.0 m.1.1.0) in
-    let honest = c.in_ok-core_made.ensures.honest k.store (option_later x.0 _ (option_later w _ m.1.1.1)) (subst (AllHonest k) (sym c.as_slice.ensures.value) x.1.0) in
-    node_core (plain c.in-Node.head.now) (plain c.args.core.now) c.in-Node.args.now c.in-Node.ensures.plain
-    (made_bind _ _ _ _ _ _ _ m.1.0 (made_bind _ _ _ _ _ _ _ w (made_bind _ _ _ _ _ _ _ x.0 (made_done _ k made stands honest))))
+    let stands = subst (λ zs. Stands (applied m.0 (without_sequences a (trees zs))) made) c.as_slice.ensures.value (c.in_ok-core_made.ensures.made m.0 m.2) in
+    let honest = c.in_ok-core_made.ensures.honest k.store (option_later x.0 _ (option_later w _ m.3)) (subst (AllHonest k) (sym c.as_slice.ensures.value) x.1.0) in
+    node_core (plain c.in-Node.head.now) (plain c.args.core.now) c.in-Node.args.now _ _ _ c.in-Node.ensures.plain
+    (made_bind _ _ _ _ _ _ _ m.1 (made_bind _ _ _ _ _ _ _ w (made_bind _ _ _ _ _ _ _ x.0 (made_done _ k made stands honest))))
 
 pub core_of-returns-then-held-found-clause-played : goal.core_of-returns-then-held-found-clause-played
 core_of-returns-then-held-found-clause-played g t c =
@@ -2433,7 +2433,7 @@ core_of-evaluated_core-requires g t c κs within =
 
 pub core_of-returns-clause-played : goal.core_of-returns-clause-played
 core_of-returns-clause-played g t c =
-    open_made (plain c.args.left.now) (plain c.core-found.result.core.now) (sym c.core-found.ensures.held ∙ c.if-held-found.false) c.core-found.ensures.core c.evaluated_core.ensures.played
+    open_made (plain c.args.left.now) (plain c.core-found.result.core.now) _ _ _ (sym c.core-found.ensures.held ∙ c.if-held-found.false) c.core-found.ensures.core c.evaluated_core.ensures.played
 
 pub prepared-returns-in_err-core-clause-played : goal.prepared-returns-in_err-core-clause-played
 prepared-returns-in_err-core-clause-played g t c =
@@ -2444,7 +2444,7 @@ prepared-returns-in_err-left-clause-played g t c =
     let o = option_map (λ e. plain e.now) c.args.condition.entry in
     let l = plain c.args.left.now in
     let m = c.in_ok-core.ensures.played in
-    unsized_stop o l c.args.self.now m.0 _ m.1.0 _ _ _ c.from_residual-in_err-left.ensures.1 (c.in_err-left.ensures.played (with_core (under o l) m.0) (c.put_back-made.ensures.made m.0 m.1.1.0))
+    unsized_stop o l c.args.self.now m.0 _ m.1 _ _ _ c.from_residual-in_err-left.ensures.1 (c.in_err-left.ensures.played (with_core (under o l) m.0) (c.put_back-made.ensures.made m.0 m.2))
 
 pub prepared-returns-clause-played : goal.prepared-returns-clause-played
 prepared-returns-clause-played g t c =
@@ -2453,18 +2453,18 @@ prepared-returns-clause-played g t c =
     let k = c.args.self.now in
     let k1 = c.core_of.new.self in
     let m = c.in_ok-core.ensures.played in
-    let f = c.in_ok-left.ensures.played (with_core (under o (plain l)) m.0) (c.put_back-made.ensures.made m.0 m.1.1.0) in
-    let s = subst (Stands m.0) c.in-Some.is m.1.1.0 in
-    let h = made_is (Honest k1) _ c.in_ok-left.left c.in_ok-left.ensures.made (c.put_back-made.ensures.honest k1.store (later m.1.0 _ c.requires.left) (condition_later m.1.0 c.args.condition.entry c.requires.condition) m.1.1.1) in
-    (sides_given o (plain l) k m.0 k1 m.1.0 c.in_ok-left.left c.in-Some.core c.fitted.new.self f.0 f.1 s, later f.0 _ h)
+    let f = c.in_ok-left.ensures.played (with_core (under o (plain l)) m.0) (c.put_back-made.ensures.made m.0 m.2) in
+    let s = subst (Stands m.0) c.in-Some.is m.2 in
+    let h = made_is (Honest k1) _ c.in_ok-left.left c.in_ok-left.ensures.made (c.put_back-made.ensures.honest k1.store (later m.1 _ c.requires.left) (condition_later m.1 c.args.condition.entry c.requires.condition) m.3) in
+    (sides_given o (plain l) k m.0 k1 m.1 c.in_ok-left.left c.in-Some.core c.fitted.new.self f.0 f.1 s, later f.0 _ h)
 
 pub prepared-returns-clause-left : goal.prepared-returns-clause-left
 prepared-returns-clause-left g t c =
     let o = option_map (λ e. plain e.now) c.args.condition.entry in
     let l = plain c.args.left.now in
     let m = c.in_ok-core.ensures.played in
-    let f = c.in_ok-left.ensures.played (with_core (under o l) m.0) (c.put_back-made.ensures.made m.0 m.1.1.0) in
-    f.1 ∙ ap (with_core (under o l)) (sym (subst (Stands m.0) c.in-Some.is m.1.1.0))
+    let f = c.in_ok-left.ensures.played (with_core (under o l) m.0) (c.put_back-made.ensures.made m.0 m.2) in
+    f.1 ∙ ap (with_core (under o l)) (sym (subst (Stands m.0) c.in-Some.is m.2))
 
 -- ---- definitions
 
