@@ -44,9 +44,9 @@ message_name_node h (more (symbol s) (more (text t) none)) (symbol x) e = refl
 message_name_node h (more (symbol s) (more (text t) none)) (node f us) e = refl
 message_name_node h (more (symbol s) (more (text t) none)) (text x) e = go (is_the (codes "MessageName") h) e
   where
-    go : (b : Bool) → None ≡ (elim b [ true ↦ Some (record { symbol = s; tag = t }) | false ↦ None ])
+    go : (b : Bool) → None ≡ (elim b as (λ _. Option MessageName) [ true ↦ Some (record { symbol = s; tag = t }) | false ↦ None ])
         → elim b [ true ↦ set_message s t x | false ↦ set_plain (node h (more (symbol s) (more (text t) none))) (text x) ] ≡ set_plain (node h (more (symbol s) (more (text t) none))) (text x)
-    go true q = absurd (let w : None ≡ Some (record { symbol = s; tag = t }) = q in cc)
+    go true q = absurd (let w : ◌≡◌ {A = Option MessageName} None (Some (record { symbol = s; tag = t })) = q in cc)
     go false q = refl
 
 pub set_unnamed : (l v : Tree) → None ≡ message_name l → set_one l v ≡ set_plain l v
@@ -108,7 +108,7 @@ set_valued (node h ls) v f = not_text h ls v f
 pub set_text : (l : Tree) (m : MessageName) (x : Bytes) → Some m ≡ message_name l → set_one l (text x) ≡ set_message m.symbol m.tag x
 set_text (node h (more (symbol s) (more (text t) none))) m x e = go (is_the (codes "MessageName") h) e
   where
-    go : (b : Bool) → Some m ≡ (elim b [ true ↦ Some (record { symbol = s; tag = t }) | false ↦ None ])
+    go : (b : Bool) → Some m ≡ (elim b as (λ _. Option MessageName) [ true ↦ Some (record { symbol = s; tag = t }) | false ↦ None ])
         → elim b [ true ↦ set_message s t x | false ↦ set_plain (node h (more (symbol s) (more (text t) none))) (text x) ] ≡ set_message m.symbol m.tag x
     go true q = let w : m ≡ record { symbol = s; tag = t } = cc in ap (λ (z : MessageName). set_message z.symbol z.tag x) (sym w)
     go false q = absurd (let w : Some m ≡ None = q in cc)

@@ -105,7 +105,7 @@ length_first met [] = omega arith
 length_first met (x ∷ xs) = go (is_name_among x met) (length_first met xs) (length_first (met ++ x ∷ []) xs)
   where
     go : (b : Bool) → length (first_names met xs) ≤ length met + length xs → length (first_names (met ++ x ∷ []) xs) ≤ length (met ++ x ∷ []) + length xs
-        → length (elim b [ true ↦ first_names met xs | false ↦ first_names (met ++ x ∷ []) xs ]) ≤ length met + length (x ∷ xs)
+        → length {A = Name} (elim b as (λ _. List Name) [ true ↦ first_names met xs | false ↦ first_names (met ++ x ∷ []) xs ]) ≤ length met + length (x ∷ xs)
     go true p q = omega (arith, p)
     go false p q = let a = length-append met (x ∷ []) in omega (arith, q, a)
 

@@ -34,10 +34,10 @@ pub returns-in_ok-minus_one-in-Minus-clause-made : goal.returns-in_ok-minus_one-
 returns-in_ok-minus_one-in-Minus-clause-made c =
     let o = plain c.args.old.now in
     let v = plain c.args.by.now in
-    subst (λ (z : Tree). Makes (form (codes "Plus") (o ∷ form (codes "Times") (z ∷ v ∷ []) ∷ [])) c.of_made.result) c.in_ok-minus_one.ensures.value (c.of_made.ensures.made _ c.of_two-negative.ensures.made)
+    subst (λ (z : Tree). Makes (form (codes "Plus") (o ∷ form (codes "Times") (z ∷ v ∷ []) ∷ [])) c.of_made.result) c.in_ok-minus_one-in-Minus.ensures.value (c.of_made.ensures.made _ c.of_two-negative.ensures.made)
 
 pub returns-in_ok-minus_one-in-Divide-clause-made : goal.returns-in_ok-minus_one-in-Divide-clause-made
 returns-in_ok-minus_one-in-Divide-clause-made c =
     let o = plain c.args.old.now in
     let v = plain c.args.by.now in
-    subst (λ (z : Tree). Makes (form (codes "Times") (o ∷ form (codes "Power") (v ∷ z ∷ []) ∷ [])) c.of_made.result) c.in_ok-minus_one.ensures.value (c.of_made.ensures.made _ c.of_two-inverse.ensures.made)
+    subst (λ (z : Tree). Makes (form (codes "Times") (o ∷ form (codes "Power") (v ∷ z ∷ []) ∷ [])) c.of_made-in-Divide.result) c.in_ok-minus_one-in-Divide.ensures.value (c.of_made-in-Divide.ensures.made _ c.of_two-inverse.ensures.made)
