@@ -200,6 +200,28 @@ within_form h l ts c e =
     ap (λ us. elim (is_around (special_node h (plain l ∷ us))) [ true ↦ node h (more (with_core (plain l) c) (plains (from_list ts))) | false ↦ c ]) (list_of_plains ts)
     ∙ ap (λ b. elim b [ true ↦ node h (more (with_core (plain l) c) (plains (from_list ts))) | false ↦ c ]) e
 
+-- the same, where the elements were read
+abbrev around_by : Bool → Tree → Tree → Trees → Tree → Tree
+around_by true h u us c = node h (more u us)
+around_by false h u us c = c
+
+around_is : (b : Bool) (h u c : Tree) (us : Trees) → elim b [ true ↦ node h (more u us) | false ↦ c ] ≡ around_by b h u us c
+around_is true h u c us = refl
+around_is false h u c us = refl
+
+pub around_read : (t h : Tree) (x : Stamped) (xs es : List Stamped) (b : Bool) (c : Tree) → xs ≡ x ∷ es → node h (plains (from_list xs)) ≡ t → b ≡ is_around (special_node h (map plain xs)) → with_core t c ≡ around_by b h (with_core (plain x) c) (plains (from_list es)) c
+around_read t h x xs es b c e q s =
+    sym (ap (λ z. with_core z c) (sym (ap (λ zs. node h (plains (from_list zs))) e) ∙ q))
+    ∙ around_is (is_around (special_node h (to_list (plains (from_list (x ∷ es)))))) h (with_core (plain x) c) c (plains (from_list es))
+    ∙ ap (λ us. around_by (is_around (special_node h (plain x ∷ us))) h (with_core (plain x) c) (plains (from_list es)) c) (list_of_plains es)
+    ∙ ap (λ zs. around_by (is_around (special_node h (map plain zs))) h (with_core (plain x) c) (plains (from_list es)) c) (sym e)
+    ∙ ap (λ z. around_by z h (with_core (plain x) c) (plains (from_list es)) c) (sym s)
+
+-- a core that doesn't fit, or for which memory ran out
+pub around_fault : (h u : Tree) (us : Trees) (f : ExprFault) → Makes u (Err f) → Makes (node h (more u us)) (Err f)
+around_fault h u us fault.Memory m = tt
+around_fault h u us fault.Large m = unfit_first h u us m
+
 -- ---- the functions that evaluate a core
 
 not_node : (t : Tree) → ((h : Tree) (ts : Trees) → t ≡ node h ts → ⊥) → is_node t ≡ false

@@ -1,6 +1,8 @@
 //! Left sides of definitions: their cores are evaluated and put back.
 ghost use Rattle.std.specs.Prelude.{◌≡◌, ◌≤◌, ◌<◌, ◌||◌, ◌∷◌, List, IfOk, IfSome, Ok, false, is_some, length, option_map, true};
 ghost use Rattle.std.specs.List.{All};
+ghost use Rattle.wl_assign.specs.Core.{is_around};
+ghost use Rattle.wl_expr.specs.Special.{special_node};
 ghost use Rattle.wl_expr.specs.Stamped.{Stamped, plain};
 ghost use Rattle.wl_expr.specs.Tree.{Tree};
 ghost use Rattle.wl_expr.specs.Words.{applied};
@@ -117,6 +119,17 @@ fn with_first(
     Expr::node(alloc, head, changed.as_slice())
 }
 
+/// Whether this is a Condition or a HoldPattern, which stand around a left side.
+fn is_around(head: &Expr, args: &[Expr]) -> bool
+    ensures { result ≡ is_around (special_node (plain head.now) (trees args.now)) }
+{
+    match special_form(head, args) {
+        Special::Condition => true,
+        Special::HoldPattern => true,
+        _ => false,
+    }
+}
+
 /// The left side with another core within its conditions and its HoldPattern.
 #[cycle(within)]
 #[tactic(auto, using(wl_expr::proofs::Parts::depth_arg))]
@@ -130,13 +143,11 @@ fn with_core(alloc: Global, left: &Expr, core: &Expr) -> Result<Expr, ExprFault>
     let Some((inner, _)) = args.split_first() else {
         return Ok(core.copy()?);
     };
-    match special_form(head, args) {
-        Special::Condition | Special::HoldPattern => {
-            let within = with_core(alloc, inner, core)?;
-            with_first(alloc, head, within, args)
-        }
-        _ => Ok(core.copy()?),
+    if !is_around(head, args) {
+        return Ok(core.copy()?);
     }
+    let within = with_core(alloc, inner, core)?;
+    with_first(alloc, head, within, args)
 }
 
 /// The left side with this core and within this condition. One that is too large makes the whole too large.

@@ -1,8 +1,9 @@
-use Rattle.std.proofs.Common.{◌∷◌, [], codes, refl, subst}
+use Rattle.std.proofs.Common.{◌∷◌, [], codes, refl, sym, subst}
 use Rattle.wl_expr.specs.Stamped.{plain}
 use Rattle.wl_expr.specs.Tree.{Tree}
 use Rattle.wl_expr.specs.Words.{form}
 use Rattle.wl_eval.specs.Played.{Makes}
+use Rattle.wl_eval.specs.Prepared.{updated}
 use Rattle.wl_ports.proofs.AsciiNames.{ascii_is_name}
 use Rattle.wl_eval.proofs.update_rows.updated.Goals as goal
 
@@ -34,10 +35,12 @@ pub returns-in_ok-minus_one-in-Minus-clause-made : goal.returns-in_ok-minus_one-
 returns-in_ok-minus_one-in-Minus-clause-made c =
     let o = plain c.args.old.now in
     let v = plain c.args.by.now in
-    subst (λ (z : Tree). Makes (form (codes "Plus") (o ∷ form (codes "Times") (z ∷ v ∷ []) ∷ [])) c.of_made.result) c.in_ok-minus_one-in-Minus.ensures.value (c.of_made.ensures.made _ c.of_two-negative.ensures.made)
+    subst (λ u. Makes (updated u o v) c.of_made.result) (sym c.in-Minus.is)
+    (subst (λ (z : Tree). Makes (form (codes "Plus") (o ∷ form (codes "Times") (z ∷ v ∷ []) ∷ [])) c.of_made.result) c.in_ok-minus_one-in-Minus.ensures.value (c.of_made.ensures.made _ c.of_two-negative.ensures.made))
 
 pub returns-in_ok-minus_one-in-Divide-clause-made : goal.returns-in_ok-minus_one-in-Divide-clause-made
 returns-in_ok-minus_one-in-Divide-clause-made c =
     let o = plain c.args.old.now in
     let v = plain c.args.by.now in
-    subst (λ (z : Tree). Makes (form (codes "Times") (o ∷ form (codes "Power") (v ∷ z ∷ []) ∷ [])) c.of_made-in-Divide.result) c.in_ok-minus_one-in-Divide.ensures.value (c.of_made-in-Divide.ensures.made _ c.of_two-inverse.ensures.made)
+    subst (λ u. Makes (updated u o v) c.of_made-in-Divide.result) (sym c.in-Divide.is)
+    (subst (λ (z : Tree). Makes (form (codes "Times") (o ∷ form (codes "Power") (v ∷ z ∷ []) ∷ [])) c.of_made-in-Divide.result) c.in_ok-minus_one-in-Divide.ensures.value (c.of_made-in-Divide.ensures.made _ c.of_two-inverse.ensures.made))

@@ -2437,30 +2437,30 @@ core_of-returns-clause-played g t c =
 
 pub prepared-returns-in_err-core-clause-played : goal.prepared-returns-in_err-core-clause-played
 prepared-returns-in_err-core-clause-played g t c =
-    prepared_stop (option_map (λ e. plain e.now) c.args.condition.entry) (plain c.args.left.now) c.args.self.now _ _ _ c.from_residual.ensures.1 c.in_err-core.ensures.played
+    prepared_stop (option_map (λ e. plain e.now) c.args.condition) (plain c.args.left.now) c.args.self.now _ _ _ c.from_residual.ensures.1 c.in_err-core.ensures.played
 
 pub prepared-returns-in_err-left-clause-played : goal.prepared-returns-in_err-left-clause-played
 prepared-returns-in_err-left-clause-played g t c =
-    let o = option_map (λ e. plain e.now) c.args.condition.entry in
+    let o = option_map (λ e. plain e.now) c.args.condition in
     let l = plain c.args.left.now in
     let m = c.in_ok-core.ensures.played in
     unsized_stop o l c.args.self.now m.0 _ m.1 _ _ _ c.from_residual-in_err-left.ensures.1 (c.in_err-left.ensures.played (with_core (under o l) m.0) (c.put_back-made.ensures.made m.0 m.2))
 
 pub prepared-returns-clause-played : goal.prepared-returns-clause-played
 prepared-returns-clause-played g t c =
-    let o = option_map (λ e. plain e.now) c.args.condition.entry in
+    let o = option_map (λ e. plain e.now) c.args.condition in
     let l = c.args.left.now in
     let k = c.args.self.now in
     let k1 = c.core_of.new.self in
     let m = c.in_ok-core.ensures.played in
     let f = c.in_ok-left.ensures.played (with_core (under o (plain l)) m.0) (c.put_back-made.ensures.made m.0 m.2) in
     let s = subst (Stands m.0) c.in-Some.is m.2 in
-    let h = made_is (Honest k1) _ c.in_ok-left.left c.in_ok-left.ensures.made (c.put_back-made.ensures.honest k1.store (later m.1 _ c.requires.left) (condition_later m.1 c.args.condition.entry c.requires.condition) m.3) in
+    let h = made_is (Honest k1) _ c.in_ok-left.left c.in_ok-left.ensures.made (c.put_back-made.ensures.honest k1.store (later m.1 _ c.requires.left) (condition_later m.1 c.args.condition c.requires.condition) m.3) in
     (sides_given o (plain l) k m.0 k1 m.1 c.in_ok-left.left c.in-Some.core c.fitted.new.self f.0 f.1 s, later f.0 _ h)
 
 pub prepared-returns-clause-left : goal.prepared-returns-clause-left
 prepared-returns-clause-left g t c =
-    let o = option_map (λ e. plain e.now) c.args.condition.entry in
+    let o = option_map (λ e. plain e.now) c.args.condition in
     let l = plain c.args.left.now in
     let m = c.in_ok-core.ensures.played in
     let f = c.in_ok-left.ensures.played (with_core (under o l) m.0) (c.put_back-made.ensures.made m.0 m.2) in
