@@ -13,7 +13,7 @@ use Rattle.wl_eval.proofs.left_sides.+within.Goals as goal
 
 pub returns-then-not-is_around-clause-made : goal.returns-then-not-is_around-clause-made
 returns-then-not-is_around-clause-made t c =
-    ap plain c.in_ok-copy-then-not-is_around.ensures
+    ap plain c.in_ok-copy-3.ensures
     ∙ sym (around_read (plain c.args.left.now) (plain c.in-Node.head.now) c.in-Some.inner.now c.in-Node.args.now c.in-Some.field-0-1.now false (plain c.args.core.now) c.in-Some.ensures.cases.0 c.in-Node.ensures.plain (sym c.if-not-is_around.true ∙ c.is_around.ensures))
 
 pub returns-in_err-within-clause-made : goal.returns-in_err-within-clause-made
