@@ -1,5 +1,5 @@
 -- Rows by their elements: those of one, of two, and of a symbol and others.
-use Rattle.std.proofs.Common.{◌≡◌, List, [], ◌∷◌, Option, Some, None, Result, Ok, refl, sym, ap, ◌∙◌, subst}
+use Rattle.std.proofs.Common.{◌≡◌, false, List, [], ◌∷◌, Option, Some, None, Result, Ok, refl, sym, ap, ◌∙◌, subst}
 use Rattle.wl_expr.specs.Stamped.{Stamped}
 use Rattle.wl_expr.specs.Tree.{Tree, num, text, symbol, node}
 use Rattle.wl_expr.specs.Words.{Name}

@@ -112,6 +112,7 @@ use Rattle.wl_eval.proofs.Updating.{changing_stop, changing_none, new_stop, new_
 use Rattle.wl_eval.proofs.DefiningRows.{by, read_some, set_both, set_row-by, delay_both, set_delayed_row-by, up_both, up_set_row-by, up_delay_both, up_set_delayed_row-by, unset_one, unset_row-by, changed_both, changing_by-by, stepping-by, tag_three, tag_set_row-by, tag_delay_three, tag_set_delayed_row-by, tag_unset, tag_unset_row-by}
 use Rattle.wl_eval.proofs.MatchRowParts.{row_count}
 use Rattle.wl_eval.proofs.ReplaceRowParts.{replacing_stops}
+use Rattle.std.proofs.Common.{is_some}
 use Rattle.wl_eval.proofs.evaluator.Evaluator.+eval.Goals as goal
 
 -- ---- which rule applies
@@ -2438,6 +2439,11 @@ core_of-returns-clause-played g t c =
 pub prepared-returns-in_err-core-clause-played : goal.prepared-returns-in_err-core-clause-played
 prepared-returns-in_err-core-clause-played g t c =
     prepared_stop (option_map (λ e. plain e.now) c.args.condition) (plain c.args.left.now) c.args.self.now _ _ _ c.from_residual.ensures.1 c.in_err-core.ensures.played
+
+pub prepared-unreachable-requires : goal.prepared-unreachable-requires
+prepared-unreachable-requires g t c =
+    let some = made_is (λ _. is_some c.in_ok-core.core ≡ true) c.put_back-made.result c.in_ok-left.left c.in_ok-left.ensures.made c.put_back-made.ensures.some in
+    true≢false (sym some ∙ ap is_some c.in_default.is)
 
 pub prepared-returns-in_err-left-clause-played : goal.prepared-returns-in_err-left-clause-played
 prepared-returns-in_err-left-clause-played g t c =
