@@ -1,7 +1,7 @@
 -- How local names are read, and bodies with their names in other places.
-use Rattle.std.proofs.Common.{◌≡◌, ℕ, zero, suc, ◌+◌, ◌<◌, ◌≤◌, Bool, true, false, ◌&&◌, ◌||◌, List, [], ◌∷◌, ◌++◌, length, map, drop, take, get_or, Option, Some, None, option_map, refl, sym, ap, ◌∙◌, arith, bytes_eq, true≢false}
+use Rattle.std.proofs.Common.{◌≡◌, ℕ, zero, suc, ◌+◌, ◌<◌, ◌≤◌, Bool, true, false, ◌&&◌, ◌||◌, List, [], ◌∷◌, ◌++◌, length, map, drop, take, get_or, Option, Some, None, option_map, Result, Ok, Err, IfOk, refl, sym, ap, ap₂, ◌∙◌, arith, bytes_eq, true≢false}
 use Rattle.std.proofs.lemmas.Slice.Eq.{bytes_eq-Decides}
-use Rattle.std.proofs.lemmas.List.{map-append}
+use Rattle.std.proofs.lemmas.List.{map-append, length-map}
 use Rattle.std.proofs.lemmas.List.Elements.{All-nil, All-cons, All-head, All-tail, All-weaker}
 use Rattle.std.specs.List.{All, filter_map, list_all, cons_option}
 use Rattle.std.specs.Prelude.{codes}
@@ -21,7 +21,11 @@ use Rattle.wl_eval.specs.Played.{trees}
 use Rattle.wl_eval.specs.Scoping.{names_of, values_of}
 use Rattle.wl_eval.specs.declared.locals.Local.{Local}
 use Rattle.wl_eval.proofs.Bindings.{drop_item, all_dropped}
-use Rattle.wl_eval.proofs.Values.{list_of_plains}
+use Rattle.wl_eval.proofs.Values.{built_honest, list_of_plains, passed_honest}
+use Rattle.wl_expr.proofs.Passing.{all_from}
+use Rattle.wl_expr.specs.Passed.{IsFrom}
+use Rattle.wl_expr.specs.Stamped as stamped
+use Rattle.wl_expr.specs.declared.fault.ExprFault.{ExprFault}
 
 -- ---- the list of local names
 
@@ -144,6 +148,16 @@ given_taken (y ∷ ys) (t ∷ ts) x = ap (λ (o : Option Tree). elim (bytes_eq x
 pub replace_taken : (b : Tree) (xs : List Name) (ts : List Tree) → replace b (take (length ts) xs) ts ≡ replace b xs ts
 replace_taken b xs ts = λ i. fill (λ x. given_taken xs ts x i) b
 
+-- the names, as many as there are values, and the values
+pub replaced_is : (b : Tree) (ls : List Local) (us vs : List Stamped) → AreSymbols ls → us ≡ take (length (values_at ls)) (names_at ls) → vs ≡ values_at ls
+    → replace b (names_in (trees us)) (trees vs) ≡ replace b (names_of (locals_in ls)) (values_of (locals_in ls))
+replaced_is b ls us vs h p q =
+    ap₂ (λ (xs ys : List Stamped). replace b (names_in (trees xs)) (trees ys)) p q
+    ∙ ap (λ (xs : List Name). replace b xs (trees (values_at ls))) (names_taken (length (values_at ls)) ls h)
+    ∙ ap (λ (m : ℕ). replace b (take m (names_of (locals_in ls))) (trees (values_at ls))) (sym (length-map (values_at ls) plain))
+    ∙ replace_taken b (names_of (locals_in ls)) (trees (values_at ls))
+    ∙ ap (λ (ts : List Tree). replace b (names_of (locals_in ls)) ts) (values_are ls)
+
 -- ---- a numbered name
 
 pub numbered_is : (t : Tree) (n : ℕ) → t ≡ symbol (name_in t) → rename t (names_in (t ∷ [])) n ≡ symbol (numbered n (name_in t))
@@ -180,3 +194,12 @@ honest_values a (l ∷ ls) h = at l.value (All-head (IsLocal a) l ls h).value
     at : (o : Option Stamped) → HonestOption a o → All (HonestIn a) (cons_option o (values_at ls))
     at None w = rest
     at (Some v) w = All-cons (HonestIn a) v (values_at ls) w rest
+
+-- what is filled hands on the stamps of the body and of the values
+pub renamed_honest : (a : Stored) (b : Stamped) (r : Result Stamped ExprFault) → ((ms : List Stamped) → IsFrom ms b → IfOk r (IsFrom ms)) → HonestIn a b → IfOk r (HonestIn a)
+renamed_honest a b (Ok e) f h = passed_honest a b e f h
+renamed_honest a b (Err d) f h = tt
+
+pub replaced_honest : (a : Stored) (b : Stamped) (vs : List Stamped) (r : Result Stamped ExprFault) → ((ms : List Stamped) → IsFrom ms b → All (IsFrom ms) vs → IfOk r (IsFrom ms)) → HonestIn a b → All (HonestIn a) vs → IfOk r (HonestIn a)
+replaced_honest a b vs (Ok e) f h w = passed_honest a (stamped.node None b (from_list vs)) e (λ ms g. f ms g.0 (all_from ms vs g.1)) (built_honest a b vs h w)
+replaced_honest a b vs (Err d) f h w = tt
