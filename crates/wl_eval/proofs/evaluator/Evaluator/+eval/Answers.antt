@@ -57,9 +57,9 @@ use Rattle.wl_eval.specs.Replacing.{found_trees}
 use Rattle.wl_eval.proofs.MatchRowParts.{any_at, any_none, args_depth, element_depth, listed_honest, node_honest, pair_honest, rule_honest, cases_at, cases_leads, cases_over, count_at, count_over, delete_atom, delete_node, elements_over, leads_to, nothing_more, one_more, pair_is, pair_row, pair_stays, part_at, part_is, part_leads, part_node, part_none, row_exit, row_truth, sifted_at, sifted_leads, sifted_over}
 use Rattle.wl_eval.proofs.RowParts.{row_at, row_gives, row_made}
 use Rattle.wl_eval.specs.Replacing.{AllHonestMaybe, each_of, part_of, replacing, replacing_each, seen_each, seen_replaced, seen_result}
-use Rattle.wl_eval.proofs.ReplaceRowParts.{below_leads, each_next, each_over, leaf_replaced, node_below, pushed_honest, pushed_trees, rebuilt_honest, rebuilt_is, replacing_is, result_replaced, step_stops, trial_next, became, each_honest, each_later, each_leads, none_is, pass_ends, pass_goes, pass_steps, pass_stops, read_honest, read_is, replace_all_is, replace_is, replace_repeated_is, take_whole}
+use Rattle.wl_eval.proofs.ReplaceRowParts.{below_leads, each_next, each_over as parts_over, leaf_replaced, node_below, pushed_honest, pushed_trees, rebuilt_honest, rebuilt_is, replacing_is, result_replaced, step_stops, trial_next, became, each_honest, each_later, each_leads as parts_leads, none_is as trial_none, pass_ends, pass_goes as again_goes, pass_steps, pass_stops as again_stops, read_honest, read_is, replace_all_is, replace_is, replace_repeated_is, take_whole}
 use Rattle.std.specs.Prelude.{IfSome, option_copied}
-use Rattle.wl_control.specs.Asks.{Asks}
+use Rattle.wl_control.specs.Asks.{Asks as Row}
 use Rattle.wl_control.specs.Cursors.{HoldsFrom}
 use Rattle.wl_control.specs.Places.{plain_ask}
 use Rattle.wl_control.specs.Stand.{IsAwaited, after, start, starts}
@@ -82,7 +82,7 @@ use Rattle.wl_eval.specs.ScopeRows as scope_rows
 use Rattle.wl_eval.specs.Scoping as scoping
 use Rattle.wl_eval.proofs.LocalParts.{locals_at, locals_push, no_locals}
 use Rattle.wl_eval.proofs.ScopingParts.{local_at, local_later, locals_later, locals_pushed}
-use Rattle.wl_eval.proofs.ScopeRowParts.{block_exit, block_on, block_played, block_row-on, given_plays, given_stops, initial_by, initial_none, initial_some, initials_is, initials_over, module_on, module_plays, module_row-on, row_exit, with_on, with_plays, with_row-on}
+use Rattle.wl_eval.proofs.ScopeRowParts.{block_exit, block_on, block_played, block_row-on, given_plays, given_stops, initial_by, initial_none, initial_some, initials_is, initials_over, module_on, module_plays, module_row-on, row_exit as scope_exit, with_on, with_plays, with_row-on}
 use Rattle.wl_eval.proofs.RowParts.{row_stays, row_at, row_made}
 use Rattle.wl_eval.proofs.ScopeRowParts.{initial_gives, shallow_push}
 use Rattle.wl_eval.proofs.GuardParts.{guard_block, guard_condition, guard_module, guard_none, guard_with}
@@ -1573,7 +1573,7 @@ replace_each-loop-i-preserved g t c =
     let k1 = c.replace_all.new.self in
     let h = c.in_ok-part.ensures.played in
     record {
-      leads = each_leads xs l.i x l.before c.in_ok-before.before c.in_ok-part.part (omega arith) c.index-args-i.is c.in_ok-before.ensures (map plain_rule c.args.rules.now) _ _ _ _ h.0 l.invariant.leads;
+      leads = parts_leads xs l.i x l.before c.in_ok-before.before c.in_ok-part.part (omega arith) c.index-args-i.is c.in_ok-before.ensures (map plain_rule c.args.rules.now) _ _ _ _ h.0 l.invariant.leads;
       sound = h.0.sound l.invariant.sound;
       rules = rules_later h.0 _ l.invariant.rules;
       args = all_later h.0 _ l.invariant.args;
@@ -1588,7 +1588,7 @@ replace_each-returns-clause-played g t c =
     let rs = map plain_rule c.args.rules.now in
     let us = option_map trees (each_of (take l.i xs) l.before) in
     let w = take_whole xs l.i (omega arith) in
-    (subst (λ z. Plays (replacing_each (Some []) rs (trees xs)) c.args.self.now (Ok (option_map trees (each_of z l.before))) l.self false) w (elements_over (replacing_each us rs) us xs l.i _ _ _ (each_over us rs) (omega arith) l.invariant.leads),
+    (subst (λ z. Plays (replacing_each (Some []) rs (trees xs)) c.args.self.now (Ok (option_map trees (each_of z l.before))) l.self false) w (elements_over (replacing_each us rs) us xs l.i _ _ _ (parts_over us rs) (omega arith) l.invariant.leads),
      subst (λ z. AllHonestMaybe l.self (each_of z l.before)) w l.invariant.before)
 
 pub replace_repeated-returns-in_err-take_step-clause-played : goal.replace_repeated-returns-in_err-take_step-clause-played
@@ -1603,7 +1603,7 @@ replace_repeated-returns-in_err-replaced-clause-played g t c n l =
     let first = plain c.args.first.now in
     let u = plain s.subject in
     let pass = pass_steps n rs first c.args.self.now u s.self c.take_step.new.self (s.invariant.passing n l) c.in_ok-take_step.ensures.played.0 in
-    pass_stops seen_result n rs first _ s.subject _ _ _ _ _ pass c.from_residual-in_err-replaced.ensures.1 c.in_err-replaced.ensures.played
+    again_stops seen_result n rs first _ s.subject _ _ _ _ _ pass c.from_residual-in_err-replaced.ensures.1 c.in_err-replaced.ensures.played
 
 pub replace_repeated-returns-in_err-value-clause-played : goal.replace_repeated-returns-in_err-value-clause-played
 replace_repeated-returns-in_err-value-clause-played g t c n l =
@@ -1649,7 +1649,7 @@ replace_repeated-loop-subject-preserved g t c =
           record {
             left = pass.left;
             enough = omega (arith, pass.enough, c.in_ok-take_step.ensures.less, c.in_ok-replaced.ensures.falls, c.in_ok-value.ensures.falls);
-            leads = pass_goes _ pass.left rs u (plain c.in_ok-value.value) _ _ c.same.result c.same.ensures c.if-same.false (leads_in _ _ _ _ _ _ _ _ on refl v.0);
+            leads = again_goes _ pass.left rs u (plain c.in_ok-value.value) _ _ c.same.result c.same.ensures c.if-same.false (leads_in _ _ _ _ _ _ _ _ on refl v.0);
           };
       sound = v.0.sound (parts.sound (step.sound s.invariant.sound));
       rules = rules_later v.0 _ (rules_later parts _ (rules_later step _ s.invariant.rules));
@@ -1709,7 +1709,7 @@ replace_row-returns-in_default-found-clause-played g t c =
     let is = read_is c.in_ok-rules.field-0 c.in-Some-2.rules _ c.in-Some-2.is c.in_ok-rules.ensures.rules in
     let same = ap (map plain_rule) c.as_slice.ensures.value in
     let h = subst (λ zs. Played found_tree (matching.trial zs (plain e)) c.args.self.now (Ok c.in_ok-found.found) c.first_result.new.self) same c.in_ok-found.ensures.played in
-    let none = none_is rs (plain e) _ _ c.in_ok-found.found h c.in_default-found.not-Some in
+    let none = trial_none rs (plain e) _ _ c.in_ok-found.found h c.in_default-found.not-Some in
     let honest = later none _ (pair_honest c.args.self.now c.args.args.now e r c.in-Some.ensures c.requires.args).0 in
     subst (λ z. Played found_tree (sized_row (match_rows.replace_row (trees c.args.args.now))) c.args.self.now (Ok (Some z)) c.first_result.new.self) (sym c.in_ok-copy.ensures)
     (pair_row found_tree match_rows.replace_row c.args.args.now e r _ _ _ c.in-Some.ensures
@@ -1825,8 +1825,8 @@ answer-questions-preserved g t c =
     let a = after (stand q.cursor) (told_by q.reply) in
     let s = stand c.asked.new.cursor in
     let o = c.in_ok-outcome.ensures in
-    let led = λ (row : Asks) (e : stand c.args.first ≡ starts row). subst (λ z. Leads (played x None row) k0 (played x (set_aside x q.taken) a) z) (sym same) (q.invariant.leads row e) in
-    let goes = λ (row : Asks) (e : stand c.args.first ≡ starts row). subst (λ z. Comes x row k0 s (Ok z) k2 c.reply.new.taken) c.in-Goes.is (o.played row k0 a s (led row e) c.in_ok-ask.ensures.posed c.catches.ensures) in
+    let led = λ (row : Row) (e : stand c.args.first ≡ starts row). subst (λ z. Leads (played x None row) k0 (played x (set_aside x q.taken) a) z) (sym same) (q.invariant.leads row e) in
+    let goes = λ (row : Row) (e : stand c.args.first ≡ starts row). subst (λ z. Comes x row k0 s (Ok z) k2 c.reply.new.taken) c.in-Goes.is (o.played row k0 a s (led row e) c.in_ok-ask.ensures.posed c.catches.ensures) in
     let first = starts_row (stand c.args.first) c.requires.awaits in
     let one = goes first.0 first.1 in
     let there = o.ready refl in
@@ -2129,7 +2129,7 @@ module_row-initials-requires g t c κs within = (search rules, (within, (c.requi
 pub module_row-returns-in_err-locals-clause-played : goal.module_row-returns-in_err-locals-clause-played
 module_row-returns-in_err-locals-clause-played g t c =
     row_at _ _ c.args.self.now c.from_residual.result c.initials.new.self (module_row-on (trees c.args.args.now) ∙ ap module_on (sym c.in-Some.ensures.read))
-    (row_exit local_names.local_list _ _ _ _ _ _ c.from_residual.ensures.1 c.in_err-locals.ensures.played)
+    (scope_exit local_names.local_list _ _ _ _ _ _ c.from_residual.ensures.1 c.in_err-locals.ensures.played)
 
 pub module_row-returns-clause-played : goal.module_row-returns-clause-played
 module_row-returns-clause-played g t c =
@@ -2164,7 +2164,7 @@ with_row-initials-requires g t c κs within = (search rules, (within, (c.require
 pub with_row-returns-in_err-locals-clause-played : goal.with_row-returns-in_err-locals-clause-played
 with_row-returns-in_err-locals-clause-played g t c =
     row_at _ _ c.args.self.now c.from_residual.result c.initials.new.self (with_row-on (trees c.args.args.now) ∙ ap with_on (sym c.in-Some.ensures.read))
-    (row_exit local_names.local_list _ _ _ _ _ _ c.from_residual.ensures.1 c.in_err-locals.ensures.played)
+    (scope_exit local_names.local_list _ _ _ _ _ _ c.from_residual.ensures.1 c.in_err-locals.ensures.played)
 
 pub with_row-returns-clause-played : goal.with_row-returns-clause-played
 with_row-returns-clause-played g t c =
@@ -2185,7 +2185,7 @@ block_row-initials-requires g t c κs within = (search rules, (within, (c.requir
 pub block_row-returns-in_err-locals-clause-played : goal.block_row-returns-in_err-locals-clause-played
 block_row-returns-in_err-locals-clause-played g t c =
     row_at _ _ c.args.self.now c.from_residual.result c.initials.new.self (block_row-on (trees c.args.args.now) ∙ ap block_on (sym c.in-Some.ensures.read))
-    (row_exit local_names.local_list _ _ _ _ _ _ c.from_residual.ensures.1 c.in_err-locals.ensures.played)
+    (scope_exit local_names.local_list _ _ _ _ _ _ c.from_residual.ensures.1 c.in_err-locals.ensures.played)
 
 -- ---- guards
 
