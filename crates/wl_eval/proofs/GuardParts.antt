@@ -1,5 +1,5 @@
 -- How guards play, and that from one guard to the next a step is taken or the tree is less deep.
-use Rattle.std.proofs.Common.{◌≡◌, ℕ, zero, suc, ◌+◌, ◌-◌, ◌<◌, ◌≤◌, max, Bool, true, false, bytes_eq, List, [], ◌∷◌, Option, Some, None, option_map, unwrap_or, IfSome, Result, Ok, Err, refl, sym, ap, ap₂, ◌∙◌, subst, arith, true≢false, ◌&&◌}
+use Rattle.std.proofs.Common.{◌≡◌, ℕ, zero, suc, ◌+◌, ◌*◌, ◌-◌, ◌<◌, ◌≤◌, max, Bool, true, false, bytes_eq, List, [], ◌∷◌, Option, Some, None, option_map, unwrap_or, IfSome, Result, Ok, Err, refl, sym, ap, ap₂, ◌∙◌, subst, arith, true≢false, ◌&&◌}
 use Rattle.std.proofs.lemmas.Slice.Eq.{bytes_eq-Decides}
 use Rattle.std.specs.Cmp.Lexicographic.{same_text}
 use Rattle.std.proofs.lemmas.List.Elements.{All-nil, All-cons, All-head, All-tail}
@@ -301,3 +301,23 @@ module_stops seen ls b g m k e k1 h = played_stop honest_tree found_tree (scopin
 
 pub with_stops : {X : Type 0} (seen : Seen X (List scopes.Local)) (ls : List scopes.Local) (b g : Tree) (m : ℕ) (k : Evaluator) (e : Stop) (k1 : Evaluator) → Played seen (scoping.initials [] ls) k (Err e) k1 → Played found_tree (with_guard m g (Some (ls, b))) k (Err e) k1
 with_stops seen ls b g m k e k1 h = played_stop honest_tree found_tree (scoping.with_body ls b) _ k e k1 (played_stop seen honest_tree (scoping.initials [] ls) _ k e k1 h)
+
+-- ---- from one guard to the next a step is taken, or the tree is less deep
+
+pub with_falls : (s s1 di de : ℕ) → s1 ≤ s → di ≤ 1000 → (s1 ≡ s → di < de) → 8000 * s1 + 3002 + 3 * di < 8000 * s + 3001 + 3 * de
+with_falls s s1 di de a b f = at (s - s1) refl
+  where
+    at : (x : ℕ) → s - s1 ≡ x → 8000 * s1 + 3002 + 3 * di < 8000 * s + 3001 + 3 * de
+    at zero e = let q = f (omega (arith, e, a)) in omega (arith, e, a, q)
+    at (suc x) e = omega (arith, e, a, b)
+
+pub with_below : (s s1 di de n : ℕ) → s1 ≤ s → di ≤ 1000 → (s1 ≡ s → di < de) → 1001 * s + de ≤ n → 1001 * s1 + di < n
+with_below s s1 di de n a b f l = at (s - s1) refl
+  where
+    at : (x : ℕ) → s - s1 ≡ x → 1001 * s1 + di < n
+    at zero e = let q = f (omega (arith, e, a)) in omega (arith, e, a, q, l)
+    at (suc x) e = omega (arith, e, a, b, l)
+
+-- the body of a scope is less deep than the scope
+pub body_depth : (k : Needs) (g : Tree) (ls : List scopes.Local) (b : Tree) → scope_parts k (elements g) ≡ Some (ls, b) → depth b < depth g
+body_depth k g ls b h = let a = parts_depth k (elements g) ls b h in let d = elements_depth g in omega (arith, a, d)

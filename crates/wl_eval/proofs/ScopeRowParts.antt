@@ -4,7 +4,7 @@ use Rattle.std.proofs.lemmas.List.Elements.{All-push}
 use Rattle.std.proofs.lemmas.Result.{err_from_is_err_and}
 use Rattle.std.specs.Result.{IsErrAnd}
 use Rattle.wl_expr.specs.Stamped.{Stamped, plain}
-use Rattle.wl_expr.specs.Tree.{Tree}
+use Rattle.wl_expr.specs.Tree.{IsWithinLimits, Tree}
 use Rattle.wl_shape.specs.Fill.{rename, replace}
 use Rattle.wl_shape.specs.Scopes as scopes
 use Rattle.wl_shape.specs.Scopes.{names, values, locals}
@@ -28,7 +28,7 @@ use Rattle.wl_eval.proofs.Bindings.{bind_assoc}
 use Rattle.wl_eval.proofs.Holding.{held_played}
 use Rattle.wl_eval.proofs.Playing.{plays_bind, plays_done}
 use Rattle.wl_eval.proofs.RowParts.{row_gives}
-use Rattle.wl_expr.specs.Words.{fits}
+use Rattle.wl_expr.proofs.Small.{fits_decides}
 use Rattle.wl_eval.proofs.Rows.{later, played_stop, played_bind}
 use Rattle.wl_eval.proofs.ScopingParts.{held_later}
 
@@ -121,7 +121,7 @@ pub row_exit : {X A : Type 0} (seen : Seen X A) (p : Prog A) (f : A → Prog Tre
     → Played found_tree (sized_row (rows.given (p >>= f))) k r k1
 row_exit seen p f k k1 r e h m =
     let q = err_from_is_err_and r h in
-    subst (λ z. Played found_tree (sized_row (rows.given (p >>= f))) k z k1) (sym (q.0 ∙ ap Err q.1)) (given_stops honest_tree (p >>= f) k e k1 (played_stop seen honest_tree p f k e k1 m))
+    subst (λ z. Played found_tree (sized_row (rows.given (p >>= f))) k z k1) (sym (q.1 ∙ ap Err q.2)) (given_stops honest_tree (p >>= f) k e k1 (played_stop seen honest_tree p f k e k1 m))
 
 pub given_plays : (p : Prog Tree) (t : Tree) (k k1 : Evaluator) → Plays p k (Ok t) k1 false → Plays (rows.given p) k (Ok (Some t)) k1 false
 given_plays p t k k1 h = plays_bind p _ h plays_done
@@ -216,9 +216,25 @@ inside_held seen p k k1 (Err stops.BudgetEnded) hs n h w = held_later h.0 hs w
 inside_held seen p k k1 (Err stops.Broke) hs n h w = held_later h.0 hs w
 inside_held seen p k k1 (Err stops.Continued) hs n h w = held_later h.0 hs w
 
--- what a Block gives of its value
-pub block_gives : (p : Prog Tree) (k k1 : Evaluator) (v : Stamped) (r : Result Stamped Stop) → r ≡ Ok v → Played value p k r k1 → fits (plain v) ≡ true → Honest k1 v → Played found_tree (sized_row (rows.given p)) k (Ok (Some v)) k1
-block_gives p k k1 v r e h f g = row_gives (rows.given p) k k1 v (given_plays p (plain v) k k1 (subst (λ z. Played value p k z k1) e h).0) f g
+-- a value, of which it is asked only that it is honest
+pub honest_played : (p : Prog Tree) (k k1 : Evaluator) (r : Result Stamped Stop) → Played value p k r k1 → Played honest_tree p k r k1
+honest_played p k k1 (Ok v) h = (h.0, h.1.0)
+honest_played p k k1 (Err stops.Memory) h = tt
+honest_played p k k1 (Err (stops.Thrown v t)) h = h
+honest_played p k k1 (Err stops.Aborted) h = h
+honest_played p k k1 (Err stops.BudgetEnded) h = h
+honest_played p k k1 (Err stops.Broke) h = h
+honest_played p k k1 (Err stops.Continued) h = h
 
-pub block_stops : (p : Prog Tree) (k k1 : Evaluator) (s : Stop) (r : Result Stamped Stop) → r ≡ Err s → Played value p k r k1 → Played found_tree (sized_row (rows.given p)) k (Err s) k1
-block_stops p k k1 s r e h = given_stops value p k s k1 (subst (λ z. Played value p k z k1) e h)
+-- what a Block gives of its value
+pub block_gives : (p : Prog Tree) (k k1 : Evaluator) (v : Stamped) (r : Result Stamped Stop) → r ≡ Ok v → Played honest_tree p k r k1 → IsWithinLimits (plain v) → Played found_tree (sized_row (rows.given p)) k (Ok (Some v)) k1
+block_gives p k k1 v r e h f =
+    let w = subst (λ z. Played honest_tree p k z k1) e h in
+    row_gives (rows.given p) k k1 v (given_plays p (plain v) k k1 w.0) ((fits_decides (plain v)).1 f) w.1
+
+pub block_stops : (p : Prog Tree) (k k1 : Evaluator) (s : Stop) (r : Result Stamped Stop) → r ≡ Err s → Played honest_tree p k r k1 → Played found_tree (sized_row (rows.given p)) k (Err s) k1
+block_stops p k k1 s r e h = given_stops honest_tree p k s k1 (subst (λ z. Played honest_tree p k z k1) e h)
+
+-- a stop that is handed on
+pub err_played : {X R : Type 0} (seen : Seen X R) (p : Prog R) {k k1 : Evaluator} {r : Result X Stop} {d : Stop} → IsErrAnd r (λ x. x ≡ d) → Played seen p k (Err d) k1 → Played seen p k r k1
+err_played seen p {k} {k1} {r} {d} h m = let q = err_from_is_err_and r h in subst (λ z. Played seen p k z k1) (sym (q.1 ∙ ap Err q.2)) m
