@@ -90,25 +90,22 @@ numbered_leaf false n x = omega arith
 pub renamed_shallow : (b : Tree) (xs : List Name) (n : ℕ) → depth (rename b xs n) ≤ depth b
 renamed_shallow b xs n = fill-depth b (numbered_names xs n) (λ x. numbered_leaf (is_name_among x xs) n x)
 
+given_first : (c : Bool) (x : Name) (t : Tree) (o : Option Tree) → depth t ≤ 1 → depth (filled_symbol x o) ≤ 1 → depth (filled_symbol x (elim c [ true ↦ Some t | false ↦ o ])) ≤ 1
+given_first true x t o h r = h
+given_first false x t o h r = r
+
 given_leaf : (xs : List Name) (ts : List Tree) → All (λ t. depth t ≤ 1) ts → AreLeaves (given xs ts)
 given_leaf [] ts h x = omega arith
 given_leaf (y ∷ ys) [] h x = omega arith
-given_leaf (y ∷ ys) (t ∷ ts) h x = cases (bytes_eq x y)
-  where
-    cases : (c : Bool) → depth (filled_symbol x (elim c [ true ↦ Some t | false ↦ given ys ts x ])) ≤ 1
-    cases true = All-head (λ t. depth t ≤ 1) t ts h
-    cases false = given_leaf ys ts (All-tail (λ t. depth t ≤ 1) t ts h) x
+given_leaf (y ∷ ys) (t ∷ ts) h x = given_first (bytes_eq x y) x t (given ys ts x) (All-head (λ t. depth t ≤ 1) t ts h) (given_leaf ys ts (All-tail (λ t. depth t ≤ 1) t ts h) x)
+
+value_shallow_first : (o : Option Stamped) (ts : List Tree) → IfSome o (λ v. depth (plain v) ≤ 1) → All (λ t. depth t ≤ 1) ts → All (λ t. depth t ≤ 1) (cons_option (option_map plain o) ts)
+value_shallow_first None ts w r = r
+value_shallow_first (Some v) ts w r = All-cons (λ t. depth t ≤ 1) (plain v) ts w r
 
 shallow_values : (ls : List Local) → AreShallow ls → All (λ t. depth t ≤ 1) (values_of (locals_in ls))
 shallow_values [] h = All-nil (λ t. depth t ≤ 1)
-shallow_values (l ∷ ls) h = at l.value (All-head IsShallow l ls h)
-  where
-    rest : All (λ t. depth t ≤ 1) (values_of (locals_in ls))
-    rest = shallow_values ls (All-tail IsShallow l ls h)
-
-    at : (o : Option Stamped) → IfSome o (λ v. depth (plain v) ≤ 1) → All (λ t. depth t ≤ 1) (cons_option (option_map plain o) (values_of (locals_in ls)))
-    at None w = rest
-    at (Some v) w = All-cons (λ t. depth t ≤ 1) (plain v) (values_of (locals_in ls)) w rest
+shallow_values (l ∷ ls) h = value_shallow_first l.value (values_of (locals_in ls)) (All-head IsShallow l ls h) (shallow_values ls (All-tail IsShallow l ls h))
 
 pub replaced_shallow : (b : Tree) (ls : List Local) → AreShallow ls → depth (replace b (names_of (locals_in ls)) (values_of (locals_in ls))) ≤ depth b
 replaced_shallow b ls h = fill-depth b (given (names_of (locals_in ls)) (values_of (locals_in ls))) (given_leaf (names_of (locals_in ls)) (values_of (locals_in ls)) (shallow_values ls h))

@@ -1,5 +1,5 @@
 -- How local names are read, and bodies with their names in other places.
-use Rattle.std.proofs.Common.{◌≡◌, ℕ, zero, suc, ◌+◌, ◌<◌, ◌≤◌, Bool, true, false, ◌&&◌, ◌||◌, List, [], ◌∷◌, ◌++◌, length, map, drop, take, get_or, Option, Some, None, option_map, Result, Ok, Err, IfOk, refl, sym, ap, ap₂, ◌∙◌, arith, bytes_eq, true≢false}
+use Rattle.std.proofs.Common.{◌≡◌, ℕ, zero, suc, ◌+◌, ◌<◌, ◌≤◌, Bool, true, false, ◌&&◌, ◌||◌, List, [], ◌∷◌, ◌++◌, length, map, drop, take, get_or, Option, Some, None, is_some, option_map, Result, Ok, Err, IfOk, refl, sym, ap, ap₂, ◌∙◌, arith, bytes_eq, true≢false}
 use Rattle.std.proofs.lemmas.Slice.Eq.{bytes_eq-Decides}
 use Rattle.std.proofs.lemmas.List.{map-append, length-map}
 use Rattle.std.proofs.lemmas.List.Elements.{All-nil, All-cons, All-head, All-tail, All-weaker}
@@ -184,16 +184,18 @@ pub honest_names : (a : Stored) (ls : List Local) → AreLocals a ls → All (Ho
 honest_names a [] h = All-nil (HonestIn a)
 honest_names a (l ∷ ls) h = All-cons (HonestIn a) l.name (names_at ls) (All-head (IsLocal a) l ls h).name (honest_names a ls (All-tail (IsLocal a) l ls h))
 
+value_honest : (a : Stored) (o : Option Stamped) (vs : List Stamped) → HonestOption a o → All (HonestIn a) vs → All (HonestIn a) (cons_option o vs)
+value_honest a None vs w r = r
+value_honest a (Some v) vs w r = All-cons (HonestIn a) v vs w r
+
 pub honest_values : (a : Stored) (ls : List Local) → AreLocals a ls → All (HonestIn a) (values_at ls)
 honest_values a [] h = All-nil (HonestIn a)
-honest_values a (l ∷ ls) h = at l.value (All-head (IsLocal a) l ls h).value
-  where
-    rest : All (HonestIn a) (values_at ls)
-    rest = honest_values a ls (All-tail (IsLocal a) l ls h)
+honest_values a (l ∷ ls) h = value_honest a l.value (values_at ls) (All-head (IsLocal a) l ls h).value (honest_values a ls (All-tail (IsLocal a) l ls h))
 
-    at : (o : Option Stamped) → HonestOption a o → All (HonestIn a) (cons_option o (values_at ls))
-    at None w = rest
-    at (Some v) w = All-cons (HonestIn a) v (values_at ls) w rest
+-- nothing is there
+pub none_of : {X : Type 0} (o : Option X) → false ≡ is_some o → None ≡ o
+none_of None e = refl
+none_of (Some x) e = absurd (true≢false (sym e))
 
 -- what is filled hands on the stamps of the body and of the values
 pub renamed_honest : (a : Stored) (b : Stamped) (r : Result Stamped ExprFault) → ((ms : List Stamped) → IsFrom ms b → IfOk r (IsFrom ms)) → HonestIn a b → IfOk r (HonestIn a)

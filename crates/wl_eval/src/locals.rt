@@ -80,11 +80,12 @@ fn local_of(e: &Expr, needs_value: bool) -> Result<Option<Local>, Memory>
     if !is_symbol(head, "Set") {
         return Ok(None);
     }
-    if !is_name(&args[0]) {
+    let name = &args[0];
+    if !is_name(name) {
         return Ok(None);
     }
     Ok(Some(Local {
-        name: args[0].copy()?,
+        name: name.copy()?,
         value: Some(args[1].copy()?),
     }))
 }

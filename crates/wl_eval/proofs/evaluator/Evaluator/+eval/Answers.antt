@@ -2148,7 +2148,7 @@ pub module_row-set_locals-requires : goal.module_row-set_locals-requires
 module_row-set_locals-requires g t c =
     let h = c.in_ok-locals.ensures.played in
     let d = c.draw_number-number.ensures.played in
-    (d.sound (h.0.sound c.requires.sound), subst (local_names.AreLocals c.draw_number-number.new.self.store) (sym c.as_slice-2.ensures.value) (locals_later d c.in_ok-locals.locals.items h.1))
+    record { sound = d.sound (h.0.sound c.requires.sound); locals = subst (local_names.AreLocals c.draw_number-number.new.self.store) (sym c.as_slice-2.ensures.value) (locals_later d c.in_ok-locals.locals.items h.1) }
 
 pub module_row-renamed-requires : goal.module_row-renamed-requires
 module_row-renamed-requires g t c = record { symbols = subst local_names.AreSymbols (sym c.as_slice-3.ensures.value) (are_symbols _ c.in_ok-locals.locals.items c.in_ok-locals.ensures.played.1) }
@@ -2218,7 +2218,7 @@ block_row-returns-in_err-locals-clause-played g t c =
 pub block_row-set_aside-requires : goal.block_row-set_aside-requires
 block_row-set_aside-requires g t c =
     let h = c.in_ok-locals.ensures.played in
-    (h.0.sound c.requires.sound, subst (local_names.AreLocals c.initials.new.self.store) (sym c.as_slice-2.ensures.value) h.1)
+    record { sound = h.0.sound c.requires.sound; locals = subst (local_names.AreLocals c.initials.new.self.store) (sym c.as_slice-2.ensures.value) h.1 }
 
 pub block_row-value_of-requires : goal.block_row-value_of-requires
 block_row-value_of-requires g t c κs within =
@@ -2232,7 +2232,7 @@ block_row-give_all-requires g t c =
     let a = c.in_ok-held.ensures in
     let n = sym c.stops_by_memory.ensures ∙ c.if-stops_by_memory.false in
     let v = c.value_of-value.ensures.played in
-    (inside_sound value _ _ _ _ n v (a.played.sound (h.0.sound c.requires.sound)), inside_held value _ _ _ _ c.in_ok-held.held.items n v a.held)
+    record { sound = inside_sound value _ _ _ _ n v (a.played.sound (h.0.sound c.requires.sound)); held = inside_held value _ _ _ _ c.in_ok-held.held.items n v a.held }
 
 pub block_row-returns-in-Err-clause-played : goal.block_row-returns-in-Err-clause-played
 block_row-returns-in-Err-clause-played g t c =
@@ -2257,7 +2257,7 @@ block_row-returns-in-Ok-clause-played g t c =
     block_played honest_tree ls vs (map held_in c.in_ok-held.held.items) inside k c.initials.new.self c.set_aside.new.self c.value_of-value.new.self c.give_all.new.self c.value_of-value.result (initials_play c.as_slice.ensures.value c.in_ok-locals.ensures.played.0)
     (aside_play c.as_slice-2.ensures.value c.in_ok-held.ensures.played) (λ x w. later b x w) (honest_played inside _ _ _ c.value_of-value.ensures.played) b in
     row_at _ _ k (Ok (Some c.in-Ok.value)) c.give_all.new.self (block_row-on (trees c.args.args.now) ∙ ap block_on (sym c.in-Some.ensures.read))
-    (block_gives (scoping.in_block ls inside) k c.give_all.new.self c.in-Ok.value c.value_of-value.result c.in-Ok.is m c.weight-_weight.ensures.fits)
+    (block_gives (scoping.in_block ls inside) k c.give_all.new.self c.in-Ok.value c.value_of-value.result c.in-Ok.is m c.weight-weight.ensures.fits)
 
 -- ---- the guard of a condition
 
@@ -2338,7 +2338,7 @@ module_guard-set_locals-requires g t c =
     let h = c.in_ok-locals.ensures.played in
     let d = c.draw_number-number.ensures.played in
     let f = (c.in_ok-inner.ensures.played _ (renamed_of c.as_slice-2.ensures.value c.renamed-made.ensures.made)).0 in
-    (f.sound (d.sound (h.0.sound c.requires.sound)), subst (local_names.AreLocals c.fitted.new.self.store) (sym c.as_slice-3.ensures.value) (locals_later f c.in_ok-locals.locals.items (locals_later d c.in_ok-locals.locals.items h.1)))
+    record { sound = f.sound (d.sound (h.0.sound c.requires.sound)); locals = subst (local_names.AreLocals c.fitted.new.self.store) (sym c.as_slice-3.ensures.value) (locals_later f c.in_ok-locals.locals.items (locals_later d c.in_ok-locals.locals.items h.1)) }
 
 pub module_guard-guard-requires : goal.module_guard-guard-requires
 module_guard-guard-requires g t c κs within =
@@ -2431,7 +2431,7 @@ with_guard-guard-requires g t c κs within =
     let x : Honest c.initials.new.self c.in_ok-inner.inner = subst (λ z. IfOk z (HonestIn a)) c.in_ok-inner.ensures.made (c.replaced-made.ensures.honest a y (subst (local_names.AreLocals a) (sym c.as_slice-2.ensures.value) h.1)) in
     let i = ap depth f.1 in
     let o = body_depth scopes.values e ls b q in
-    let less = with_falls k.steps c.fitted.new.self.steps (depth (plain c.in_ok-inner.inner)) (depth e) (omega (arith, c.in_ok-locals.ensures.falls, c.in_ok-inner.ensures.kept)) c.depth-_depth.ensures.fits.shallow
+    let less = with_falls k.steps c.fitted.new.self.steps (depth (plain c.in_ok-inner.inner)) (depth e) (omega (arith, c.in_ok-locals.ensures.falls, c.in_ok-inner.ensures.kept)) c.depth-depth.ensures.fits.shallow
     (λ z. let j = replaced_shallow b us (c.in_ok-locals.ensures.shallow (omega (arith, z, c.in_ok-inner.ensures.kept))) in omega (arith, i, j, o)) in
     (omega (arith, less), (within, (f.0.sound (h.0.sound c.requires.sound), later f.0 _ x)))
 
@@ -2446,7 +2446,7 @@ with_guard-returns-clause-played g t c n l =
     let f = c.in_ok-inner.ensures.played _ (replaced_of c.as_slice-2.ensures.value c.replaced-made.ensures.made) in
     let i = ap depth f.1 in
     let o = body_depth scopes.values e ls b q in
-    let below = with_below k.steps c.fitted.new.self.steps (depth (plain c.in_ok-inner.inner)) (depth e) n (omega (arith, c.in_ok-locals.ensures.falls, c.in_ok-inner.ensures.kept)) c.depth-_depth.ensures.fits.shallow
+    let below = with_below k.steps c.fitted.new.self.steps (depth (plain c.in_ok-inner.inner)) (depth e) n (omega (arith, c.in_ok-locals.ensures.falls, c.in_ok-inner.ensures.kept)) c.depth-depth.ensures.fits.shallow
     (λ z. let j = replaced_shallow b us (c.in_ok-locals.ensures.shallow (omega (arith, z, c.in_ok-inner.ensures.kept))) in omega (arith, i, j, o)) l in
     let w = c.guard.ensures.played n below in
     subst (λ z. Played found_tree (guards.with_guard n e z) k c.guard.result c.guard.new.self) (sym q)
@@ -2480,7 +2480,7 @@ block_guard-returns-in_err-locals-clause-played g t c n l =
 pub block_guard-set_aside-requires : goal.block_guard-set_aside-requires
 block_guard-set_aside-requires g t c =
     let h = c.in_ok-locals.ensures.played in
-    (h.0.sound c.requires.sound, subst (local_names.AreLocals c.initials.new.self.store) (sym c.as_slice-2.ensures.value) h.1)
+    record { sound = h.0.sound c.requires.sound; locals = subst (local_names.AreLocals c.initials.new.self.store) (sym c.as_slice-2.ensures.value) h.1 }
 
 pub block_guard-guarded_value-requires : goal.block_guard-guarded_value-requires
 block_guard-guarded_value-requires g t c κs within =
@@ -2502,7 +2502,7 @@ block_guard-give_all-requires g t c =
     let a = c.in_ok-held.ensures in
     let n = sym c.stops_by_memory.ensures ∙ c.if-stops_by_memory.false in
     let v = c.guarded_value-found.ensures.played (1001 * k.steps + depth e) (omega (arith, o, c.in_ok-locals.ensures.falls, c.in_ok-held.ensures.kept)) in
-    (inside_sound found_tree _ _ _ _ n v (a.played.sound (h.0.sound c.requires.sound)), inside_held found_tree _ _ _ _ c.in_ok-held.held.items n v a.held)
+    record { sound = inside_sound found_tree _ _ _ _ n v (a.played.sound (h.0.sound c.requires.sound)); held = inside_held found_tree _ _ _ _ c.in_ok-held.held.items n v a.held }
 
 pub block_guard-returns-clause-played : goal.block_guard-returns-clause-played
 block_guard-returns-clause-played g t c n l =
@@ -2693,7 +2693,7 @@ catch_thrown-returns-in_err-found-clause-played g t c =
 pub catch_thrown-returns-then-found-clause-played : goal.catch_thrown-returns-then-found-clause-played
 catch_thrown-returns-then-found-clause-played g t c =
     let w = c.in_ok-found.ensures.played (2 ^ 64) c.ranges.self.steps in
-    thrown_caught (plain c.args.pattern.now) c.args.v c.args.tag c.args.self.now c.matches.new.self c.in_ok-found.found w.0 c.if-found.true c.weight-_weight.ensures.fits (later w.0 _ c.requires.value)
+    thrown_caught (plain c.args.pattern.now) c.args.v c.args.tag c.args.self.now c.matches.new.self c.in_ok-found.found w.0 c.if-found.true c.weight-weight.ensures.fits (later w.0 _ c.requires.value)
 
 pub catch_thrown-returns-clause-played : goal.catch_thrown-returns-clause-played
 catch_thrown-returns-clause-played g t c =

@@ -20,5 +20,5 @@ returns-in-Ok-Some-clause-played g c =
     let k = c.args.self.now in
     let r = c.function_applied in
     let e = c.in-Ok-Some.e in
-    given_some (function_applied (plain c.args.f.now) (trees c.args.args.now)) k r.result e (c.in-Ok-Some.is ∙ ap Ok c.in-Ok-Some.field-0-is) r.ensures.made c.weight-_weight.ensures.fits
+    given_some (function_applied (plain c.args.f.now) (trees c.args.args.now)) k r.result e (c.in-Ok-Some.is ∙ ap Ok c.in-Ok-Some.field-0-is) r.ensures.made c.weight-weight.ensures.fits
     (given_honest k c.args.f.now c.args.args.now r.result e (c.in-Ok-Some.is ∙ ap Ok c.in-Ok-Some.field-0-is) r.ensures.passed c.requires.function c.requires.args)

@@ -13,17 +13,17 @@ pub take_rules-requires : goal.take_rules-requires
 take_rules-requires c =
     let l = c.loop-i in
     let x = c.index-locals-i.result in
-    (l.invariant.sound, subst (λ z. IsUnprotected z l.self) (sym (c.name_of.ensures ∙ ap (λ (z : Stamped). name_in (plain z)) c.in_ok-copy.ensures)) (free_at _ c.args.locals.now l.i x c.loop-i-test.true c.index-locals-i.is l.invariant.free).unprotected)
+    record { sound = l.invariant.sound; unprotected = subst (λ z. IsUnprotected z l.self) (sym (c.name_of.ensures ∙ ap (λ (z : Stamped). name_in (plain z)) c.in_ok-name.ensures)) (free_at _ c.args.locals.now l.i x c.loop-i-test.true c.index-locals-i.is l.invariant.free).unprotected }
 
 pub loop-i-preserved : goal.loop-i-preserved
 loop-i-preserved c =
     let ls = c.args.locals.now in
     let l = c.loop-i in
     let x = c.index-locals-i.result in
-    let e = c.in_ok-take_rules.ensures in
+    let e = c.in_ok-taken.ensures in
     let k1 = c.take_rules.new.self in
-    let named = c.name_of.ensures ∙ ap (λ (z : Stamped). name_in (plain z)) c.in_ok-copy.ensures in
-    let h : Held = record { name = c.in_ok-copy.field-0; taken = c.in_ok-take_rules.taken } in
+    let named = c.name_of.ensures ∙ ap (λ (z : Stamped). name_in (plain z)) c.in_ok-name.ensures in
+    let h : Held = record { name = c.in_ok-name.name; taken = c.in_ok-taken.taken } in
     let at = locals_at ls l.i x c.loop-i-test.true c.index-locals-i.is in
     record {
       leads = leads_on l.invariant.leads (subst (λ zs. Leads (scoping.take_all (map held_in l.held.items) (locals_in (drop l.i ls))) l.self (scoping.take_all zs (locals_in (drop (l.i + 1) ls))) k1) (sym (held_push l.held.items h _ c.in_ok-push.ensures.items))
