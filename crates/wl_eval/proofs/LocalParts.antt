@@ -1,8 +1,8 @@
 -- How local names are read, and bodies with their names in other places.
-use Rattle.std.proofs.Common.{◌≡◌, ℕ, zero, suc, ◌+◌, ◌<◌, ◌≤◌, Bool, true, false, ◌&&◌, ◌||◌, List, [], ◌∷◌, ◌++◌, length, map, drop, take, get_or, Option, Some, None, is_some, option_map, Result, Ok, Err, IfOk, refl, sym, ap, ap₂, ◌∙◌, arith, bytes_eq, true≢false}
+use Rattle.std.proofs.Common.{◌≡◌, ℕ, zero, suc, ◌+◌, ◌<◌, ◌≤◌, Bool, true, false, ◌&&◌, ◌||◌, List, [], ◌∷◌, ◌++◌, length, map, drop, take, get_or, Option, Some, None, is_some, option_map, Result, Ok, Err, IfOk, refl, sym, ap, ap₂, ◌∙◌, subst, arith, bytes_eq, true≢false}
 use Rattle.std.proofs.lemmas.Slice.Eq.{bytes_eq-Decides}
 use Rattle.std.proofs.lemmas.List.{map-append, length-map}
-use Rattle.std.proofs.lemmas.List.Elements.{All-nil, All-cons, All-head, All-tail, All-weaker}
+use Rattle.std.proofs.lemmas.List.Elements.{All-nil, All-cons, All-head, All-push, All-tail, All-weaker}
 use Rattle.std.specs.List.{All, filter_map, list_all, cons_option}
 use Rattle.std.specs.Prelude.{codes}
 use Rattle.wl_expr.specs.Same.{is_name_among}
@@ -205,3 +205,15 @@ renamed_honest a b (Err d) f h = tt
 pub replaced_honest : (a : Stored) (b : Stamped) (vs : List Stamped) (r : Result Stamped ExprFault) → ((ms : List Stamped) → IsFrom ms b → All (IsFrom ms) vs → IfOk r (IsFrom ms)) → HonestIn a b → All (HonestIn a) vs → IfOk r (HonestIn a)
 replaced_honest a b vs (Ok e) f h w = passed_honest a (stamped.node None b (from_list vs)) e (λ ms g. f ms g.0 (all_from ms vs g.1)) (built_honest a b vs h w)
 replaced_honest a b vs (Err d) f h w = tt
+
+-- a symbol and its value, copied out of honest elements
+pub local_honest : (a : Stored) (es : List Stamped) (n v x y : Stamped) → es ≡ n ∷ v ∷ [] → All (HonestIn a) es → x ≡ n → y ≡ v → is_name (plain n) ≡ true → IsLocal a (record { name = x; value = Some y })
+local_honest a es n v x y q w e f s =
+    let g = subst (All (HonestIn a)) q w in
+    let r : IsSymbol x = subst IsSymbol (sym e) (named_symbol (plain n) s) in
+    let u : HonestIn a x = subst (HonestIn a) (sym e) (All-head (HonestIn a) n (v ∷ []) g) in
+    let z : HonestIn a y = subst (HonestIn a) (sym f) (All-head (HonestIn a) v [] (All-tail (HonestIn a) n (v ∷ []) g)) in
+    record { symbol = r; name = u; value = z }
+
+pub locals_honest_push : (a : Stored) (ls : List Local) (l : Local) (ms : List Local) → ms ≡ ls ++ l ∷ [] → AreLocals a ls → IsLocal a l → AreLocals a ms
+locals_honest_push a ls l ms e h w = subst (AreLocals a) (sym e) (All-push (IsLocal a) ls l h w)

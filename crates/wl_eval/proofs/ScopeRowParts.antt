@@ -178,23 +178,23 @@ block_exit seen seen' ls inside k e k1 m = played_stop seen seen' (scoping.initi
 -- ---- the same local names, lent as a slice
 
 module _ {xs ys : List Local} (e : xs ≡ ys) where
-  pub initials_stop : {k k1 : Evaluator} {d : Stop} → Played local_list (scoping.initials [] (locals_in xs)) k (Err d) k1 → Played local_list (scoping.initials [] (locals_in ys)) k (Err d) k1
-  initials_stop {k} {k1} {d} h = subst (λ (zs : List Local). Played local_list (scoping.initials [] (locals_in zs)) k (Err d) k1) e h
+  pub initials_stop : (k k1 : Evaluator) (d : Stop) → Played local_list (scoping.initials [] (locals_in xs)) k (Err d) k1 → Played local_list (scoping.initials [] (locals_in ys)) k (Err d) k1
+  initials_stop k k1 d h = subst (λ (zs : List Local). Played local_list (scoping.initials [] (locals_in zs)) k (Err d) k1) e h
 
   pub initials_play : {k k1 : Evaluator} {vs : List scopes.Local} → Plays (scoping.initials [] (locals_in xs)) k (Ok vs) k1 false → Plays (scoping.initials [] (locals_in ys)) k (Ok vs) k1 false
   initials_play {k} {k1} {vs} h = subst (λ (zs : List Local). Plays (scoping.initials [] (locals_in zs)) k (Ok vs) k1 false) e h
 
-  pub locals_play : {n : ℕ} {k k1 : Evaluator} → Plays (scoping.set_locals n (locals_in xs)) k (Ok tt) k1 false → Plays (scoping.set_locals n (locals_in ys)) k (Ok tt) k1 false
-  locals_play {n} {k} {k1} h = subst (λ (zs : List Local). Plays (scoping.set_locals n (locals_in zs)) k (Ok tt) k1 false) e h
+  pub locals_play : (n : ℕ) {k k1 : Evaluator} → Plays (scoping.set_locals n (locals_in xs)) k (Ok tt) k1 false → Plays (scoping.set_locals n (locals_in ys)) k (Ok tt) k1 false
+  locals_play n {k} {k1} h = subst (λ (zs : List Local). Plays (scoping.set_locals n (locals_in zs)) k (Ok tt) k1 false) e h
 
   pub aside_play : {ts : List scoping.Taken} {k k1 : Evaluator} → Plays (aside (locals_in xs)) k (Ok ts) k1 false → Plays (aside (locals_in ys)) k (Ok ts) k1 false
   aside_play {ts} {k} {k1} h = subst (λ (zs : List Local). Plays (aside (locals_in zs)) k (Ok ts) k1 false) e h
 
-  pub renamed_of : {b : Tree} {n : ℕ} {r : Result Stamped ExprFault} → Makes (rename b (names_of (locals_in xs)) n) r → Makes (rename b (names_of (locals_in ys)) n) r
-  renamed_of {b} {n} {r} h = subst (λ (zs : List Local). Makes (rename b (names_of (locals_in zs)) n) r) e h
+  pub renamed_of : (b : Tree) (n : ℕ) (r : Result Stamped ExprFault) → Makes (rename b (names_of (locals_in xs)) n) r → Makes (rename b (names_of (locals_in ys)) n) r
+  renamed_of b n r h = subst (λ (zs : List Local). Makes (rename b (names_of (locals_in zs)) n) r) e h
 
-  pub replaced_of : {b : Tree} {r : Result Stamped ExprFault} → Makes (replace b (names_of (locals_in xs)) (values_of (locals_in xs))) r → Makes (replace b (names_of (locals_in ys)) (values_of (locals_in ys))) r
-  replaced_of {b} {r} h = subst (λ (zs : List Local). Makes (replace b (names_of (locals_in zs)) (values_of (locals_in zs))) r) e h
+  pub replaced_of : (b : Tree) (r : Result Stamped ExprFault) → Makes (replace b (names_of (locals_in xs)) (values_of (locals_in xs))) r → Makes (replace b (names_of (locals_in ys)) (values_of (locals_in ys))) r
+  replaced_of b r h = subst (λ (zs : List Local). Makes (replace b (names_of (locals_in zs)) (values_of (locals_in zs))) r) e h
 
 -- ---- after an inside that memory has not stopped
 
@@ -236,5 +236,5 @@ pub block_stops : (p : Prog Tree) (k k1 : Evaluator) (s : Stop) (r : Result Stam
 block_stops p k k1 s r e h = given_stops honest_tree p k s k1 (subst (λ z. Played honest_tree p k z k1) e h)
 
 -- a stop that is handed on
-pub err_played : {X R : Type 0} (seen : Seen X R) (p : Prog R) {k k1 : Evaluator} {r : Result X Stop} {d : Stop} → IsErrAnd r (λ x. x ≡ d) → Played seen p k (Err d) k1 → Played seen p k r k1
-err_played seen p {k} {k1} {r} {d} h m = let q = err_from_is_err_and r h in subst (λ z. Played seen p k z k1) (sym (q.1 ∙ ap Err q.2)) m
+pub err_played : {X R : Type 0} (seen : Seen X R) (p : Prog R) (k k1 : Evaluator) (r : Result X Stop) (d : Stop) → IsErrAnd r (λ x. x ≡ d) → Played seen p k (Err d) k1 → Played seen p k r k1
+err_played seen p k k1 r d h m = let q = err_from_is_err_and r h in subst (λ z. Played seen p k z k1) (sym (q.1 ∙ ap Err q.2)) m

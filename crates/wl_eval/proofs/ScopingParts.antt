@@ -1,5 +1,5 @@
 -- How Module and Block change entries.
-use Rattle.std.proofs.Common.{◌≡◌, ℕ, zero, suc, ◌+◌, ◌/◌, ◌%◌, ◌<◌, ◌≤◌, ◌&&◌, not, nat_lt, Bool, true, false, ◌==◌, List, [], ◌∷◌, ◌++◌, length, map, drop, get_or, reverse, Option, Some, None, is_some, option_map, unwrap_or, Result, Ok, refl, sym, ap, ap₂, ◌∙◌, subst, subst₂, arith, bytes_eq}
+use Rattle.std.proofs.Common.{◌≡◌, ℕ, zero, suc, ◌+◌, ◌-◌, ◌/◌, ◌%◌, ◌<◌, ◌≤◌, ◌&&◌, not, nat_lt, Bool, true, false, ◌==◌, List, [], ◌∷◌, ◌++◌, length, map, drop, take, get_or, reverse, Option, Some, None, is_some, option_map, unwrap_or, Result, Ok, refl, sym, ap, ap₂, ◌∙◌, subst, subst₂, arith, bytes_eq}
 use Rattle.std.proofs.lemmas.Bool.Decides.{nat_tests}
 use Rattle.std.proofs.lemmas.List.{map-append, reverse-append}
 use Rattle.std.proofs.lemmas.List.Elements.{All-nil, All-cons, All-head, All-tail, All-push, All-weaker}
@@ -294,12 +294,9 @@ numbered_by x v p = elim p [ true ↦ message (codes "Set") (codes "wrsym") (sym
 pub numbered_plays : (x y : Name) (v : Tree) (k k1 k2 : Evaluator) (p b : Bool) → y ≡ x → p ≡ b → Plays (is_protected y) k (Ok p) k1 false → Plays (numbered_by x v b) k1 (Ok tt) k2 false → Plays (scoping.set_numbered x v) k (Ok tt) k2 false
 numbered_plays x y v k k1 k2 p b e q h m = plays_bind (is_protected x) (numbered_by x v) (subst (λ z. Plays (is_protected x) k (Ok z) k1 false) q (subst (λ n. Plays (is_protected n) k (Ok p) k1 false) e h)) m
 
-empty_held : (hs : List Held) → length hs ≡ 0 → hs ≡ []
-empty_held [] e = refl
-empty_held (h ∷ hs) e = absurd (let q : suc (length hs) ≡ 0 = e in cc)
-
-pub none_held : (hs : List Held) → length hs ≡ 0 → hs ≡ []
-none_held hs e = empty_held hs e
+-- what nothing comes off has nothing
+pub none_held : (hs gs : List Held) (n : ℕ) → hs ≡ gs ++ [] → gs ≡ take (n - 1) hs → n ≡ 0 → hs ≡ []
+none_held hs gs n e r z = e ∙ ap (λ (xs : List Held). xs ++ []) (r ∙ ap (λ (m : ℕ). take (m - 1) hs) z)
 
 -- ---- a name that Block takes, or not, as the code looks at it
 

@@ -175,7 +175,8 @@ pub(crate) fn replaced(alloc: Global, body: &Expr, locals: &[Local]) -> Result<E
 {
     let mut names = names_of(alloc, locals)?;
     let values = values_of(alloc, locals)?;
+    let given = values.as_slice();
     // In With each name has a value.
-    names.truncate(values.len());
-    replace(alloc, body, names.as_slice(), values.as_slice())
+    names.truncate(given.len());
+    replace(alloc, body, names.as_slice(), given)
 }

@@ -161,9 +161,10 @@ impl Evaluator {
     {
         let mut others = Vec::new(self.alloc);
         for i in 0..locals.len() {
-            let may_block = self.may_block(&locals[i], work)?;
+            let local = &locals[i];
+            let may_block = self.may_block(local, work)?;
             if may_block {
-                others.push(locals[i].copy()?)?;
+                others.push(local.copy()?)?;
             }
         }
         Ok(others)

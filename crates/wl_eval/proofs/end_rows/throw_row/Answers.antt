@@ -18,4 +18,4 @@ returns-then-args-eq2 c = λ k h.
     let es = c.args.args.now in
     let v = c.index-args-0-then-args-eq2.result in
     let t = c.index-args-1.result in
-    throw_two k es v t c.in_ok-v-then-args-eq2.v c.in_ok-tag.tag (two_items es v t (omega (arith, c.if-args-eq2.true)) c.index-args-0-then-args-eq2.is c.index-args-1.is) c.in_ok-v-then-args-eq2.ensures c.in_ok-tag.ensures h
+    throw_two k es v t c.in_ok-v-2.v c.in_ok-tag.tag (two_items es v t (omega (arith, c.if-args-eq2.true)) c.index-args-0-then-args-eq2.is c.index-args-1.is) c.in_ok-v-2.ensures c.in_ok-tag.ensures h

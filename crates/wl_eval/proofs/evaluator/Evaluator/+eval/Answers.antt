@@ -2134,15 +2134,15 @@ initials-returns-clause-played g t c =
 -- ---- Module
 
 pub module_row-returns-in_default-clause-played : goal.module_row-returns-in_default-clause-played
-module_row-returns-in_default-clause-played g t c = row_stays _ _ (module_row-on (trees c.args.args.now) ∙ ap module_on (sym c.in_default.ensures.read))
+module_row-returns-in_default-clause-played g t c = row_stays _ _ (module_row-on (trees c.args.args.now) ∙ ap module_on (sym (rw c.in_default.is at c.in_ok-names.ensures).read))
 
 pub module_row-initials-requires : goal.module_row-initials-requires
-module_row-initials-requires g t c κs within = (search rules, (within, (c.requires.sound, subst (local_names.AreLocals c.args.self.now.store) (sym c.as_slice.ensures.value) (c.in-Some.ensures.honest c.args.self.now.store c.requires.args).0)))
+module_row-initials-requires g t c κs within = (search rules, (within, (c.requires.sound, subst (local_names.AreLocals c.args.self.now.store) (sym c.as_slice.ensures.value) ((rw c.in-Some.is at c.in_ok-names.ensures).honest c.args.self.now.store c.requires.args).0)))
 
 pub module_row-returns-in_err-locals-clause-played : goal.module_row-returns-in_err-locals-clause-played
 module_row-returns-in_err-locals-clause-played g t c =
-    row_at _ _ c.args.self.now c.from_residual-in_err-locals.result c.initials.new.self (module_row-on (trees c.args.args.now) ∙ ap module_on (sym c.in-Some.ensures.read))
-    (scope_exit local_names.local_list _ _ _ _ _ _ c.from_residual-in_err-locals.ensures.1 (initials_stop c.as_slice.ensures.value c.in_err-locals.ensures.played))
+    row_at _ _ c.args.self.now c.from_residual-in_err-locals.result c.initials.new.self (module_row-on (trees c.args.args.now) ∙ ap module_on (sym (rw c.in-Some.is at c.in_ok-names.ensures).read))
+    (scope_exit local_names.local_list _ _ _ _ _ _ c.from_residual-in_err-locals.ensures.1 (initials_stop c.as_slice.ensures.value _ _ _ c.in_err-locals.ensures.played))
 
 pub module_row-set_locals-requires : goal.module_row-set_locals-requires
 module_row-set_locals-requires g t c =
@@ -2158,7 +2158,7 @@ module_row-given-requires g t c =
     let h = c.in_ok-locals.ensures.played in
     let d = c.draw_number-number.ensures.played in
     let m = c.in_ok-set_locals.ensures.played in
-    record { honest = c.renamed-made.ensures.honest c.set_locals.new.self.store (later m _ (later d _ (later h.0 _ (c.in-Some.ensures.honest c.args.self.now.store c.requires.args).1))) }
+    record { honest = c.renamed-made.ensures.honest c.set_locals.new.self.store (later m _ (later d _ (later h.0 _ ((rw c.in-Some.is at c.in_ok-names.ensures).honest c.args.self.now.store c.requires.args).1))) }
 
 pub module_row-returns-clause-played : goal.module_row-returns-clause-played
 module_row-returns-clause-played g t c =
@@ -2166,23 +2166,23 @@ module_row-returns-clause-played g t c =
     let b = plain c.in-Some.body.now in
     let vs = locals_in c.in_ok-locals.locals.items in
     let n = c.draw_number-number.result in
-    row_at _ _ c.args.self.now c.given.result c.given.new.self (module_row-on (trees c.args.args.now) ∙ ap module_on (sym c.in-Some.ensures.read))
+    row_at _ _ c.args.self.now c.given.result c.given.new.self (module_row-on (trees c.args.args.now) ∙ ap module_on (sym (rw c.in-Some.is at c.in_ok-names.ensures).read))
     (row_made _ _ _ c.set_locals.new.self _ _
-    (given_plays _ _ _ c.set_locals.new.self (module_plays ls vs b _ _ (initials_play c.as_slice.ensures.value c.in_ok-locals.ensures.played.0) n _ _ c.draw_number-number.ensures.played (locals_play c.as_slice-2.ensures.value c.in_ok-set_locals.ensures.played)))
-    (c.given.ensures.played _ (renamed_of c.as_slice-3.ensures.value c.renamed-made.ensures.made)))
+    (given_plays _ _ _ c.set_locals.new.self (module_plays ls vs b _ _ (initials_play c.as_slice.ensures.value c.in_ok-locals.ensures.played.0) n _ _ c.draw_number-number.ensures.played (locals_play c.as_slice-2.ensures.value c.draw_number-number.result c.in_ok-set_locals.ensures.played)))
+    (c.given.ensures.played _ (renamed_of c.as_slice-3.ensures.value (plain c.in-Some.body.now) c.draw_number-number.result c.renamed-made.result c.renamed-made.ensures.made)))
 
 -- ---- With
 
 pub with_row-returns-in_default-clause-played : goal.with_row-returns-in_default-clause-played
-with_row-returns-in_default-clause-played g t c = row_stays _ _ (with_row-on (trees c.args.args.now) ∙ ap with_on (sym c.in_default.ensures.read))
+with_row-returns-in_default-clause-played g t c = row_stays _ _ (with_row-on (trees c.args.args.now) ∙ ap with_on (sym (rw c.in_default.is at c.in_ok-names.ensures).read))
 
 pub with_row-initials-requires : goal.with_row-initials-requires
-with_row-initials-requires g t c κs within = (search rules, (within, (c.requires.sound, subst (local_names.AreLocals c.args.self.now.store) (sym c.as_slice.ensures.value) (c.in-Some.ensures.honest c.args.self.now.store c.requires.args).0)))
+with_row-initials-requires g t c κs within = (search rules, (within, (c.requires.sound, subst (local_names.AreLocals c.args.self.now.store) (sym c.as_slice.ensures.value) ((rw c.in-Some.is at c.in_ok-names.ensures).honest c.args.self.now.store c.requires.args).0)))
 
 pub with_row-returns-in_err-locals-clause-played : goal.with_row-returns-in_err-locals-clause-played
 with_row-returns-in_err-locals-clause-played g t c =
-    row_at _ _ c.args.self.now c.from_residual-in_err-locals.result c.initials.new.self (with_row-on (trees c.args.args.now) ∙ ap with_on (sym c.in-Some.ensures.read))
-    (scope_exit local_names.local_list _ _ _ _ _ _ c.from_residual-in_err-locals.ensures.1 (initials_stop c.as_slice.ensures.value c.in_err-locals.ensures.played))
+    row_at _ _ c.args.self.now c.from_residual-in_err-locals.result c.initials.new.self (with_row-on (trees c.args.args.now) ∙ ap with_on (sym (rw c.in-Some.is at c.in_ok-names.ensures).read))
+    (scope_exit local_names.local_list _ _ _ _ _ _ c.from_residual-in_err-locals.ensures.1 (initials_stop c.as_slice.ensures.value _ _ _ c.in_err-locals.ensures.played))
 
 pub with_row-replaced-requires : goal.with_row-replaced-requires
 with_row-replaced-requires g t c = record { symbols = subst local_names.AreSymbols (sym c.as_slice-2.ensures.value) (are_symbols _ c.in_ok-locals.locals.items c.in_ok-locals.ensures.played.1) }
@@ -2191,29 +2191,29 @@ pub with_row-given-requires : goal.with_row-given-requires
 with_row-given-requires g t c =
     let h = c.in_ok-locals.ensures.played in
     let a = c.initials.new.self.store in
-    record { honest = c.replaced-made.ensures.honest a (later h.0 _ (c.in-Some.ensures.honest c.args.self.now.store c.requires.args).1) (subst (local_names.AreLocals a) (sym c.as_slice-2.ensures.value) h.1) }
+    record { honest = c.replaced-made.ensures.honest a (later h.0 _ ((rw c.in-Some.is at c.in_ok-names.ensures).honest c.args.self.now.store c.requires.args).1) (subst (local_names.AreLocals a) (sym c.as_slice-2.ensures.value) h.1) }
 
 pub with_row-returns-clause-played : goal.with_row-returns-clause-played
 with_row-returns-clause-played g t c =
     let ls = locals_in c.in-Some.names.items in
     let b = plain c.in-Some.body.now in
     let vs = locals_in c.in_ok-locals.locals.items in
-    row_at _ _ c.args.self.now c.given.result c.given.new.self (with_row-on (trees c.args.args.now) ∙ ap with_on (sym c.in-Some.ensures.read))
+    row_at _ _ c.args.self.now c.given.result c.given.new.self (with_row-on (trees c.args.args.now) ∙ ap with_on (sym (rw c.in-Some.is at c.in_ok-names.ensures).read))
     (row_made _ _ _ c.initials.new.self _ _ (given_plays _ _ _ c.initials.new.self (with_plays ls vs b _ _ (initials_play c.as_slice.ensures.value c.in_ok-locals.ensures.played.0)))
-    (c.given.ensures.played _ (replaced_of c.as_slice-2.ensures.value c.replaced-made.ensures.made)))
+    (c.given.ensures.played _ (replaced_of c.as_slice-2.ensures.value (plain c.in-Some.body.now) c.replaced-made.result c.replaced-made.ensures.made)))
 
 -- ---- Block
 
 pub block_row-returns-in_default-clause-played : goal.block_row-returns-in_default-clause-played
-block_row-returns-in_default-clause-played g t c = row_stays _ _ (block_row-on (trees c.args.args.now) ∙ ap block_on (sym c.in_default.ensures.read))
+block_row-returns-in_default-clause-played g t c = row_stays _ _ (block_row-on (trees c.args.args.now) ∙ ap block_on (sym (rw c.in_default.is at c.in_ok-names.ensures).read))
 
 pub block_row-initials-requires : goal.block_row-initials-requires
-block_row-initials-requires g t c κs within = (search rules, (within, (c.requires.sound, subst (local_names.AreLocals c.args.self.now.store) (sym c.as_slice.ensures.value) (c.in-Some.ensures.honest c.args.self.now.store c.requires.args).0)))
+block_row-initials-requires g t c κs within = (search rules, (within, (c.requires.sound, subst (local_names.AreLocals c.args.self.now.store) (sym c.as_slice.ensures.value) ((rw c.in-Some.is at c.in_ok-names.ensures).honest c.args.self.now.store c.requires.args).0)))
 
 pub block_row-returns-in_err-locals-clause-played : goal.block_row-returns-in_err-locals-clause-played
 block_row-returns-in_err-locals-clause-played g t c =
-    row_at _ _ c.args.self.now c.from_residual-in_err-locals.result c.initials.new.self (block_row-on (trees c.args.args.now) ∙ ap block_on (sym c.in-Some.ensures.read))
-    (scope_exit local_names.local_list _ _ _ _ _ _ c.from_residual-in_err-locals.ensures.1 (initials_stop c.as_slice.ensures.value c.in_err-locals.ensures.played))
+    row_at _ _ c.args.self.now c.from_residual-in_err-locals.result c.initials.new.self (block_row-on (trees c.args.args.now) ∙ ap block_on (sym (rw c.in-Some.is at c.in_ok-names.ensures).read))
+    (scope_exit local_names.local_list _ _ _ _ _ _ c.from_residual-in_err-locals.ensures.1 (initials_stop c.as_slice.ensures.value _ _ _ c.in_err-locals.ensures.played))
 
 pub block_row-set_aside-requires : goal.block_row-set_aside-requires
 block_row-set_aside-requires g t c =
@@ -2224,7 +2224,7 @@ pub block_row-value_of-requires : goal.block_row-value_of-requires
 block_row-value_of-requires g t c κs within =
     let h = c.in_ok-locals.ensures.played in
     let a = c.in_ok-held.ensures.played in
-    (omega (arith, c.in_ok-locals.ensures.falls, c.in_ok-held.ensures.kept), (within, (a.sound (h.0.sound c.requires.sound), later a _ (later h.0 _ (c.in-Some.ensures.honest c.args.self.now.store c.requires.args).1))))
+    (omega (arith, c.in_ok-locals.ensures.falls, c.in_ok-held.ensures.kept), (within, (a.sound (h.0.sound c.requires.sound), later a _ (later h.0 _ ((rw c.in-Some.is at c.in_ok-names.ensures).honest c.args.self.now.store c.requires.args).1))))
 
 pub block_row-give_all-requires : goal.block_row-give_all-requires
 block_row-give_all-requires g t c =
@@ -2244,7 +2244,7 @@ block_row-returns-in-Err-clause-played g t c =
     let m =
     block_played honest_tree ls vs (map held_in c.in_ok-held.held.items) inside k c.initials.new.self c.set_aside.new.self c.value_of-value.new.self c.give_all.new.self c.value_of-value.result (initials_play c.as_slice.ensures.value c.in_ok-locals.ensures.played.0)
     (aside_play c.as_slice-2.ensures.value c.in_ok-held.ensures.played) (λ x w. later b x w) (honest_played inside _ _ _ c.value_of-value.ensures.played) b in
-    row_at _ _ k (Err c.in-Err.stop) c.give_all.new.self (block_row-on (trees c.args.args.now) ∙ ap block_on (sym c.in-Some.ensures.read)) (block_stops (scoping.in_block ls inside) k c.give_all.new.self c.in-Err.stop c.value_of-value.result c.in-Err.is m)
+    row_at _ _ k (Err c.in-Err.stop) c.give_all.new.self (block_row-on (trees c.args.args.now) ∙ ap block_on (sym (rw c.in-Some.is at c.in_ok-names.ensures).read)) (block_stops (scoping.in_block ls inside) k c.give_all.new.self c.in-Err.stop c.value_of-value.result c.in-Err.is m)
 
 pub block_row-returns-in-Ok-clause-played : goal.block_row-returns-in-Ok-clause-played
 block_row-returns-in-Ok-clause-played g t c =
@@ -2256,7 +2256,7 @@ block_row-returns-in-Ok-clause-played g t c =
     let m =
     block_played honest_tree ls vs (map held_in c.in_ok-held.held.items) inside k c.initials.new.self c.set_aside.new.self c.value_of-value.new.self c.give_all.new.self c.value_of-value.result (initials_play c.as_slice.ensures.value c.in_ok-locals.ensures.played.0)
     (aside_play c.as_slice-2.ensures.value c.in_ok-held.ensures.played) (λ x w. later b x w) (honest_played inside _ _ _ c.value_of-value.ensures.played) b in
-    row_at _ _ k (Ok (Some c.in-Ok.value)) c.give_all.new.self (block_row-on (trees c.args.args.now) ∙ ap block_on (sym c.in-Some.ensures.read))
+    row_at _ _ k (Ok (Some c.in-Ok.value)) c.give_all.new.self (block_row-on (trees c.args.args.now) ∙ ap block_on (sym (rw c.in-Some.is at c.in_ok-names.ensures).read))
     (block_gives (scoping.in_block ls inside) k c.give_all.new.self c.in-Ok.value c.value_of-value.result c.in-Ok.is m c.weight-weight.ensures.fits)
 
 -- ---- the guard of a condition
@@ -2301,21 +2301,21 @@ pub module_guard-returns-in_default-clause-played : goal.module_guard-returns-in
 module_guard-returns-in_default-clause-played g t c n l =
     let k = c.args.self.now in
     let e = plain c.args.e.now in
-    let q : scope_parts scopes.names (elements e) ≡ None = ap (scope_parts scopes.names) (sym c.elements.ensures.elements) ∙ sym c.in_default.ensures.read in
+    let q : scope_parts scopes.names (elements e) ≡ None = ap (scope_parts scopes.names) (sym c.elements.ensures.elements) ∙ sym (rw c.in_default.is at c.in_ok-names.ensures).read in
     (subst (λ z. Plays (guards.module_guard n e z) k (Ok (Some (plain c.in_ok-copy.field-0))) k false) (sym q) (plays_done_is (ap (λ z. Some (plain z)) (sym c.in_ok-copy.ensures))), subst (Honest k) (sym c.in_ok-copy.ensures) c.requires.honest)
 
 pub module_guard-initials-requires : goal.module_guard-initials-requires
 module_guard-initials-requires g t c κs within =
     let a = c.args.self.now.store in
-    (omega arith, (within, (c.requires.sound, subst (local_names.AreLocals a) (sym c.as_slice.ensures.value) (c.in-Some.ensures.honest a (c.elements.ensures.honest a c.requires.honest)).0)))
+    (omega arith, (within, (c.requires.sound, subst (local_names.AreLocals a) (sym c.as_slice.ensures.value) ((rw c.in-Some.is at c.in_ok-names.ensures).honest a (c.elements.ensures.honest a c.requires.honest)).0)))
 
 pub module_guard-returns-in_err-locals-clause-played : goal.module_guard-returns-in_err-locals-clause-played
 module_guard-returns-in_err-locals-clause-played g t c n l =
     let k = c.args.self.now in
     let e = plain c.args.e.now in
-    let q : scope_parts scopes.names (elements e) ≡ Some (locals_in c.in-Some.names.items, plain c.in-Some.body.now) = ap (scope_parts scopes.names) (sym c.elements.ensures.elements) ∙ sym c.in-Some.ensures.read in
+    let q : scope_parts scopes.names (elements e) ≡ Some (locals_in c.in-Some.names.items, plain c.in-Some.body.now) = ap (scope_parts scopes.names) (sym c.elements.ensures.elements) ∙ sym (rw c.in-Some.is at c.in_ok-names.ensures).read in
     subst (λ z. Played found_tree (guards.module_guard n e z) k c.from_residual-in_err-locals.result c.initials.new.self) (sym q)
-    (err_played found_tree _ c.from_residual-in_err-locals.ensures.1 (module_stops local_names.local_list _ _ e n k _ _ (initials_stop c.as_slice.ensures.value c.in_err-locals.ensures.played)))
+    (err_played found_tree _ _ _ c.from_residual-in_err-locals.result _ c.from_residual-in_err-locals.ensures.1 (module_stops local_names.local_list _ _ e n k _ _ (initials_stop c.as_slice.ensures.value _ _ _ c.in_err-locals.ensures.played)))
 
 pub module_guard-renamed-requires : goal.module_guard-renamed-requires
 module_guard-renamed-requires g t c = record { symbols = subst local_names.AreSymbols (sym c.as_slice-2.ensures.value) (are_symbols _ c.in_ok-locals.locals.items c.in_ok-locals.ensures.played.1) }
@@ -2327,17 +2327,17 @@ module_guard-returns-in_err-inner-clause-played g t c n l =
     let ls = locals_in c.in-Some.names.items in
     let b = plain c.in-Some.body.now in
     let vs = locals_in c.in_ok-locals.locals.items in
-    let q : scope_parts scopes.names (elements e) ≡ Some (ls, b) = ap (scope_parts scopes.names) (sym c.elements.ensures.elements) ∙ sym c.in-Some.ensures.read in
-    let m = renamed_of c.as_slice-2.ensures.value c.renamed-made.ensures.made in
+    let q : scope_parts scopes.names (elements e) ≡ Some (ls, b) = ap (scope_parts scopes.names) (sym c.elements.ensures.elements) ∙ sym (rw c.in-Some.is at c.in_ok-names.ensures).read in
+    let m = renamed_of c.as_slice-2.ensures.value (plain c.in-Some.body.now) c.draw_number-number.result c.renamed-made.result c.renamed-made.ensures.made in
     subst (λ z. Played found_tree (guards.module_guard n e z) k c.from_residual-in_err-inner.result c.fitted.new.self) (sym q)
-    (err_played found_tree _ c.from_residual-in_err-inner.ensures.1
+    (err_played found_tree _ _ _ c.from_residual-in_err-inner.result _ c.from_residual-in_err-inner.ensures.1
     (module_sized ls vs b k _ (initials_play c.as_slice.ensures.value c.in_ok-locals.ensures.played.0) c.draw_number-number.result _ c.draw_number-number.ensures.played _ _ (c.in_err-inner.ensures.played _ m) n e))
 
 pub module_guard-set_locals-requires : goal.module_guard-set_locals-requires
 module_guard-set_locals-requires g t c =
     let h = c.in_ok-locals.ensures.played in
     let d = c.draw_number-number.ensures.played in
-    let f = (c.in_ok-inner.ensures.played _ (renamed_of c.as_slice-2.ensures.value c.renamed-made.ensures.made)).0 in
+    let f = (c.in_ok-inner.ensures.played _ (renamed_of c.as_slice-2.ensures.value (plain c.in-Some.body.now) c.draw_number-number.result c.renamed-made.result c.renamed-made.ensures.made)).0 in
     record { sound = f.sound (d.sound (h.0.sound c.requires.sound)); locals = subst (local_names.AreLocals c.fitted.new.self.store) (sym c.as_slice-3.ensures.value) (locals_later f c.in_ok-locals.locals.items (locals_later d c.in_ok-locals.locals.items h.1)) }
 
 pub module_guard-guard-requires : goal.module_guard-guard-requires
@@ -2348,13 +2348,13 @@ module_guard-guard-requires g t c κs within =
     let b = plain c.in-Some.body.now in
     let vs = locals_in c.in_ok-locals.locals.items in
     let n = c.draw_number-number.result in
-    let q : scope_parts scopes.names (elements e) ≡ Some (ls, b) = ap (scope_parts scopes.names) (sym c.elements.ensures.elements) ∙ sym c.in-Some.ensures.read in
+    let q : scope_parts scopes.names (elements e) ≡ Some (ls, b) = ap (scope_parts scopes.names) (sym c.elements.ensures.elements) ∙ sym (rw c.in-Some.is at c.in_ok-names.ensures).read in
     let h = c.in_ok-locals.ensures.played in
     let d = c.draw_number-number.ensures.played in
-    let f = c.in_ok-inner.ensures.played _ (renamed_of c.as_slice-2.ensures.value c.renamed-made.ensures.made) in
+    let f = c.in_ok-inner.ensures.played _ (renamed_of c.as_slice-2.ensures.value (plain c.in-Some.body.now) c.draw_number-number.result c.renamed-made.result c.renamed-made.ensures.made) in
     let s = c.in_ok-set_locals.ensures.played in
     let a = c.args.self.now.store in
-    let x : Honest k c.in_ok-inner.inner = subst (λ z. IfOk z (HonestIn a)) c.in_ok-inner.ensures.made (c.renamed-made.ensures.honest a (c.in-Some.ensures.honest a (c.elements.ensures.honest a c.requires.honest)).1) in
+    let x : Honest k c.in_ok-inner.inner = subst (λ z. IfOk z (HonestIn a)) c.in_ok-inner.ensures.made (c.renamed-made.ensures.honest a ((rw c.in-Some.is at c.in_ok-names.ensures).honest a (c.elements.ensures.honest a c.requires.honest)).1) in
     let i = ap depth f.1 in
     let j = renamed_shallow b (scoping.names_of vs) n in
     let o = body_depth scopes.names e ls b q in
@@ -2369,15 +2369,15 @@ module_guard-returns-clause-played g t c n l =
     let b = plain c.in-Some.body.now in
     let vs = locals_in c.in_ok-locals.locals.items in
     let m = c.draw_number-number.result in
-    let q : scope_parts scopes.names (elements e) ≡ Some (ls, b) = ap (scope_parts scopes.names) (sym c.elements.ensures.elements) ∙ sym c.in-Some.ensures.read in
-    let f = c.in_ok-inner.ensures.played _ (renamed_of c.as_slice-2.ensures.value c.renamed-made.ensures.made) in
+    let q : scope_parts scopes.names (elements e) ≡ Some (ls, b) = ap (scope_parts scopes.names) (sym c.elements.ensures.elements) ∙ sym (rw c.in-Some.is at c.in_ok-names.ensures).read in
+    let f = c.in_ok-inner.ensures.played _ (renamed_of c.as_slice-2.ensures.value (plain c.in-Some.body.now) c.draw_number-number.result c.renamed-made.result c.renamed-made.ensures.made) in
     let i = ap depth f.1 in
     let j = renamed_shallow b (scoping.names_of vs) m in
     let o = body_depth scopes.names e ls b q in
     let w = c.guard.ensures.played n (omega (arith, l, i, j, o, c.in_ok-locals.ensures.falls, c.draw_number-number.ensures.kept, c.in_ok-inner.ensures.kept, c.in_ok-set_locals.ensures.kept)) in
     subst (λ z. Played found_tree (guards.module_guard n e z) k c.guard.result c.guard.new.self) (sym q)
     (module_guarded ls vs b k _ (initials_play c.as_slice.ensures.value c.in_ok-locals.ensures.played.0) m _ c.draw_number-number.ensures.played c.fitted.new.self c.set_locals.new.self c.guard.new.self n e c.guard.result f.0
-    (locals_play c.as_slice-3.ensures.value c.in_ok-set_locals.ensures.played) (subst (λ z. Played found_tree (guard_within n z) c.set_locals.new.self c.guard.result c.guard.new.self) f.1 w))
+    (locals_play c.as_slice-3.ensures.value c.draw_number-number.result c.in_ok-set_locals.ensures.played) (subst (λ z. Played found_tree (guard_within n z) c.set_locals.new.self c.guard.result c.guard.new.self) f.1 w))
 
 -- ---- the guard of a With
 
@@ -2385,21 +2385,21 @@ pub with_guard-returns-in_default-clause-played : goal.with_guard-returns-in_def
 with_guard-returns-in_default-clause-played g t c n l =
     let k = c.args.self.now in
     let e = plain c.args.e.now in
-    let q : scope_parts scopes.values (elements e) ≡ None = ap (scope_parts scopes.values) (sym c.elements.ensures.elements) ∙ sym c.in_default.ensures.read in
+    let q : scope_parts scopes.values (elements e) ≡ None = ap (scope_parts scopes.values) (sym c.elements.ensures.elements) ∙ sym (rw c.in_default.is at c.in_ok-names.ensures).read in
     (subst (λ z. Plays (guards.with_guard n e z) k (Ok (Some (plain c.in_ok-copy.field-0))) k false) (sym q) (plays_done_is (ap (λ z. Some (plain z)) (sym c.in_ok-copy.ensures))), subst (Honest k) (sym c.in_ok-copy.ensures) c.requires.honest)
 
 pub with_guard-initials-requires : goal.with_guard-initials-requires
 with_guard-initials-requires g t c κs within =
     let a = c.args.self.now.store in
-    (omega arith, (within, (c.requires.sound, subst (local_names.AreLocals a) (sym c.as_slice.ensures.value) (c.in-Some.ensures.honest a (c.elements.ensures.honest a c.requires.honest)).0)))
+    (omega arith, (within, (c.requires.sound, subst (local_names.AreLocals a) (sym c.as_slice.ensures.value) ((rw c.in-Some.is at c.in_ok-names.ensures).honest a (c.elements.ensures.honest a c.requires.honest)).0)))
 
 pub with_guard-returns-in_err-locals-clause-played : goal.with_guard-returns-in_err-locals-clause-played
 with_guard-returns-in_err-locals-clause-played g t c n l =
     let k = c.args.self.now in
     let e = plain c.args.e.now in
-    let q : scope_parts scopes.values (elements e) ≡ Some (locals_in c.in-Some.names.items, plain c.in-Some.body.now) = ap (scope_parts scopes.values) (sym c.elements.ensures.elements) ∙ sym c.in-Some.ensures.read in
+    let q : scope_parts scopes.values (elements e) ≡ Some (locals_in c.in-Some.names.items, plain c.in-Some.body.now) = ap (scope_parts scopes.values) (sym c.elements.ensures.elements) ∙ sym (rw c.in-Some.is at c.in_ok-names.ensures).read in
     subst (λ z. Played found_tree (guards.with_guard n e z) k c.from_residual-in_err-locals.result c.initials.new.self) (sym q)
-    (err_played found_tree _ c.from_residual-in_err-locals.ensures.1 (with_stops local_names.local_list _ _ e n k _ _ (initials_stop c.as_slice.ensures.value c.in_err-locals.ensures.played)))
+    (err_played found_tree _ _ _ c.from_residual-in_err-locals.result _ c.from_residual-in_err-locals.ensures.1 (with_stops local_names.local_list _ _ e n k _ _ (initials_stop c.as_slice.ensures.value _ _ _ c.in_err-locals.ensures.played)))
 
 pub with_guard-replaced-requires : goal.with_guard-replaced-requires
 with_guard-replaced-requires g t c = record { symbols = subst local_names.AreSymbols (sym c.as_slice-2.ensures.value) (are_symbols _ c.in_ok-locals.locals.items c.in_ok-locals.ensures.played.1) }
@@ -2411,10 +2411,10 @@ with_guard-returns-in_err-inner-clause-played g t c n l =
     let ls = locals_in c.in-Some.names.items in
     let b = plain c.in-Some.body.now in
     let vs = locals_in c.in_ok-locals.locals.items in
-    let q : scope_parts scopes.values (elements e) ≡ Some (ls, b) = ap (scope_parts scopes.values) (sym c.elements.ensures.elements) ∙ sym c.in-Some.ensures.read in
-    let m = replaced_of c.as_slice-2.ensures.value c.replaced-made.ensures.made in
+    let q : scope_parts scopes.values (elements e) ≡ Some (ls, b) = ap (scope_parts scopes.values) (sym c.elements.ensures.elements) ∙ sym (rw c.in-Some.is at c.in_ok-names.ensures).read in
+    let m = replaced_of c.as_slice-2.ensures.value (plain c.in-Some.body.now) c.replaced-made.result c.replaced-made.ensures.made in
     subst (λ z. Played found_tree (guards.with_guard n e z) k c.from_residual-in_err-inner.result c.fitted.new.self) (sym q)
-    (err_played found_tree _ c.from_residual-in_err-inner.ensures.1 (with_sized ls vs b k _ (initials_play c.as_slice.ensures.value c.in_ok-locals.ensures.played.0) _ _ (c.in_err-inner.ensures.played _ m) n e))
+    (err_played found_tree _ _ _ c.from_residual-in_err-inner.result _ c.from_residual-in_err-inner.ensures.1 (with_sized ls vs b k _ (initials_play c.as_slice.ensures.value c.in_ok-locals.ensures.played.0) _ _ (c.in_err-inner.ensures.played _ m) n e))
 
 pub with_guard-guard-requires : goal.with_guard-guard-requires
 with_guard-guard-requires g t c κs within =
@@ -2423,11 +2423,11 @@ with_guard-guard-requires g t c κs within =
     let ls = locals_in c.in-Some.names.items in
     let b = plain c.in-Some.body.now in
     let us = c.in_ok-locals.locals.items in
-    let q : scope_parts scopes.values (elements e) ≡ Some (ls, b) = ap (scope_parts scopes.values) (sym c.elements.ensures.elements) ∙ sym c.in-Some.ensures.read in
+    let q : scope_parts scopes.values (elements e) ≡ Some (ls, b) = ap (scope_parts scopes.values) (sym c.elements.ensures.elements) ∙ sym (rw c.in-Some.is at c.in_ok-names.ensures).read in
     let h = c.in_ok-locals.ensures.played in
-    let f = c.in_ok-inner.ensures.played _ (replaced_of c.as_slice-2.ensures.value c.replaced-made.ensures.made) in
+    let f = c.in_ok-inner.ensures.played _ (replaced_of c.as_slice-2.ensures.value (plain c.in-Some.body.now) c.replaced-made.result c.replaced-made.ensures.made) in
     let a = c.initials.new.self.store in
-    let y = later h.0 _ (c.in-Some.ensures.honest c.args.self.now.store (c.elements.ensures.honest c.args.self.now.store c.requires.honest)).1 in
+    let y = later h.0 _ ((rw c.in-Some.is at c.in_ok-names.ensures).honest c.args.self.now.store (c.elements.ensures.honest c.args.self.now.store c.requires.honest)).1 in
     let x : Honest c.initials.new.self c.in_ok-inner.inner = subst (λ z. IfOk z (HonestIn a)) c.in_ok-inner.ensures.made (c.replaced-made.ensures.honest a y (subst (local_names.AreLocals a) (sym c.as_slice-2.ensures.value) h.1)) in
     let i = ap depth f.1 in
     let o = body_depth scopes.values e ls b q in
@@ -2442,8 +2442,8 @@ with_guard-returns-clause-played g t c n l =
     let ls = locals_in c.in-Some.names.items in
     let b = plain c.in-Some.body.now in
     let us = c.in_ok-locals.locals.items in
-    let q : scope_parts scopes.values (elements e) ≡ Some (ls, b) = ap (scope_parts scopes.values) (sym c.elements.ensures.elements) ∙ sym c.in-Some.ensures.read in
-    let f = c.in_ok-inner.ensures.played _ (replaced_of c.as_slice-2.ensures.value c.replaced-made.ensures.made) in
+    let q : scope_parts scopes.values (elements e) ≡ Some (ls, b) = ap (scope_parts scopes.values) (sym c.elements.ensures.elements) ∙ sym (rw c.in-Some.is at c.in_ok-names.ensures).read in
+    let f = c.in_ok-inner.ensures.played _ (replaced_of c.as_slice-2.ensures.value (plain c.in-Some.body.now) c.replaced-made.result c.replaced-made.ensures.made) in
     let i = ap depth f.1 in
     let o = body_depth scopes.values e ls b q in
     let below = with_below k.steps c.fitted.new.self.steps (depth (plain c.in_ok-inner.inner)) (depth e) n (omega (arith, c.in_ok-locals.ensures.falls, c.in_ok-inner.ensures.kept)) c.depth-depth.ensures.fits.shallow
@@ -2459,13 +2459,13 @@ pub block_guard-returns-in_default-clause-played : goal.block_guard-returns-in_d
 block_guard-returns-in_default-clause-played g t c n l =
     let k = c.args.self.now in
     let e = plain c.args.e.now in
-    let q : scope_parts scopes.names (elements e) ≡ None = ap (scope_parts scopes.names) (sym c.elements.ensures.elements) ∙ sym c.in_default.ensures.read in
+    let q : scope_parts scopes.names (elements e) ≡ None = ap (scope_parts scopes.names) (sym c.elements.ensures.elements) ∙ sym (rw c.in_default.is at c.in_ok-names.ensures).read in
     (subst (λ z. Plays (guards.block_guard n e z) k (Ok (Some (plain c.in_ok-copy.field-0))) k false) (sym q) (plays_done_is (ap (λ z. Some (plain z)) (sym c.in_ok-copy.ensures))), subst (Honest k) (sym c.in_ok-copy.ensures) c.requires.honest)
 
 pub block_guard-initials-requires : goal.block_guard-initials-requires
 block_guard-initials-requires g t c κs within =
     let a = c.args.self.now.store in
-    (omega arith, (within, (c.requires.sound, subst (local_names.AreLocals a) (sym c.as_slice.ensures.value) (c.in-Some.ensures.honest a (c.elements.ensures.honest a c.requires.honest)).0)))
+    (omega arith, (within, (c.requires.sound, subst (local_names.AreLocals a) (sym c.as_slice.ensures.value) ((rw c.in-Some.is at c.in_ok-names.ensures).honest a (c.elements.ensures.honest a c.requires.honest)).0)))
 
 pub block_guard-returns-in_err-locals-clause-played : goal.block_guard-returns-in_err-locals-clause-played
 block_guard-returns-in_err-locals-clause-played g t c n l =
@@ -2473,9 +2473,9 @@ block_guard-returns-in_err-locals-clause-played g t c n l =
     let e = plain c.args.e.now in
     let ls = locals_in c.in-Some.names.items in
     let b = plain c.in-Some.body.now in
-    let q : scope_parts scopes.names (elements e) ≡ Some (ls, b) = ap (scope_parts scopes.names) (sym c.elements.ensures.elements) ∙ sym c.in-Some.ensures.read in
+    let q : scope_parts scopes.names (elements e) ≡ Some (ls, b) = ap (scope_parts scopes.names) (sym c.elements.ensures.elements) ∙ sym (rw c.in-Some.is at c.in_ok-names.ensures).read in
     subst (λ z. Played found_tree (guards.block_guard n e z) k c.from_residual-in_err-locals.result c.initials.new.self) (sym q)
-    (err_played found_tree _ c.from_residual-in_err-locals.ensures.1 (block_exit local_names.local_list found_tree ls (guarded_value n b) k _ _ (initials_stop c.as_slice.ensures.value c.in_err-locals.ensures.played)))
+    (err_played found_tree _ _ _ c.from_residual-in_err-locals.result _ c.from_residual-in_err-locals.ensures.1 (block_exit local_names.local_list found_tree ls (guarded_value n b) k _ _ (initials_stop c.as_slice.ensures.value _ _ _ c.in_err-locals.ensures.played)))
 
 pub block_guard-set_aside-requires : goal.block_guard-set_aside-requires
 block_guard-set_aside-requires g t c =
@@ -2486,17 +2486,17 @@ pub block_guard-guarded_value-requires : goal.block_guard-guarded_value-requires
 block_guard-guarded_value-requires g t c κs within =
     let a = c.args.self.now.store in
     let e = plain c.args.e.now in
-    let q : scope_parts scopes.names (elements e) ≡ Some (locals_in c.in-Some.names.items, plain c.in-Some.body.now) = ap (scope_parts scopes.names) (sym c.elements.ensures.elements) ∙ sym c.in-Some.ensures.read in
+    let q : scope_parts scopes.names (elements e) ≡ Some (locals_in c.in-Some.names.items, plain c.in-Some.body.now) = ap (scope_parts scopes.names) (sym c.elements.ensures.elements) ∙ sym (rw c.in-Some.is at c.in_ok-names.ensures).read in
     let h = c.in_ok-locals.ensures.played in
     let s = c.in_ok-held.ensures.played in
     let o = body_depth scopes.names e _ _ q in
-    (omega (arith, o, c.in_ok-locals.ensures.falls, c.in_ok-held.ensures.kept), (within, (s.sound (h.0.sound c.requires.sound), later s _ (later h.0 _ (c.in-Some.ensures.honest a (c.elements.ensures.honest a c.requires.honest)).1))))
+    (omega (arith, o, c.in_ok-locals.ensures.falls, c.in_ok-held.ensures.kept), (within, (s.sound (h.0.sound c.requires.sound), later s _ (later h.0 _ ((rw c.in-Some.is at c.in_ok-names.ensures).honest a (c.elements.ensures.honest a c.requires.honest)).1))))
 
 pub block_guard-give_all-requires : goal.block_guard-give_all-requires
 block_guard-give_all-requires g t c =
     let k = c.args.self.now in
     let e = plain c.args.e.now in
-    let q : scope_parts scopes.names (elements e) ≡ Some (locals_in c.in-Some.names.items, plain c.in-Some.body.now) = ap (scope_parts scopes.names) (sym c.elements.ensures.elements) ∙ sym c.in-Some.ensures.read in
+    let q : scope_parts scopes.names (elements e) ≡ Some (locals_in c.in-Some.names.items, plain c.in-Some.body.now) = ap (scope_parts scopes.names) (sym c.elements.ensures.elements) ∙ sym (rw c.in-Some.is at c.in_ok-names.ensures).read in
     let o = body_depth scopes.names e _ _ q in
     let h = c.in_ok-locals.ensures.played in
     let a = c.in_ok-held.ensures in
@@ -2511,7 +2511,7 @@ block_guard-returns-clause-played g t c n l =
     let ls = locals_in c.in-Some.names.items in
     let vs = locals_in c.in_ok-locals.locals.items in
     let b = plain c.in-Some.body.now in
-    let q : scope_parts scopes.names (elements e) ≡ Some (ls, b) = ap (scope_parts scopes.names) (sym c.elements.ensures.elements) ∙ sym c.in-Some.ensures.read in
+    let q : scope_parts scopes.names (elements e) ≡ Some (ls, b) = ap (scope_parts scopes.names) (sym c.elements.ensures.elements) ∙ sym (rw c.in-Some.is at c.in_ok-names.ensures).read in
     let o = body_depth scopes.names e ls b q in
     let v = c.guarded_value-found.ensures.played n (omega (arith, l, o, c.in_ok-locals.ensures.falls, c.in_ok-held.ensures.kept)) in
     let back = c.give_all.ensures.played in
