@@ -1,6 +1,7 @@
 use Rattle.std.proofs.Common.{Some, sym, ap, ◌∙◌, subst, arith}
 use Rattle.std.specs.Prelude.{IfSome}
 use Rattle.wl_expr.specs.Stamped.{plain}
+use Rattle.wl_eval.specs.Honest.{HonestIn}
 use Rattle.wl_eval.specs.LocalNames.{IsLocal, locals_in}
 use Rattle.wl_eval.specs.Searching.{needs_values}
 use Rattle.wl_eval.proofs.LocalParts.{a_local_more, all_locals, locals_honest_push, locals_listed, not_a_local}
@@ -23,7 +24,7 @@ loop-i-preserved c =
     record {
       read = l.invariant.read ∙ a_local_more k xs l.i c.index-args-i.result c.loop-i-test.true c.index-args-i.is l.all.items c.in_ok-name.field-0 c.in-Some.name c.push.new.self.items c.in-Some.is c.in_ok-name.ensures.read c.in_ok-push.ensures.items;
       honest = λ a w. locals_honest_push a l.all.items c.in-Some.name c.push.new.self.items c.in_ok-push.ensures.items (l.invariant.honest a w)
-          (subst (λ o. IfSome o (IsLocal a)) c.in-Some.is (c.in_ok-name.ensures.honest a (w l.i c.index-args-i.result c.loop-i-test.true)));
+          (subst (λ o. IfSome o (IsLocal a)) c.in-Some.is (c.in_ok-name.ensures.honest a (subst (HonestIn a) (sym c.index-args-i.is) (w l.i c.index-args-i.result c.loop-i-test.true))));
     }
 
 pub returns-clause-read : goal.returns-clause-read
