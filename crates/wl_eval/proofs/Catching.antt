@@ -1,5 +1,5 @@
 -- What rows give of how evaluations end.
-use Rattle.std.proofs.Common.{◌≡◌, ℕ, Bool, true, false, ◌||◌, List, [], ◌∷◌, length, Option, Some, None, option_map, Result, Ok, Err, refl, sym, ap, ap₂, ◌∙◌, subst}
+use Rattle.std.proofs.Common.{◌≡◌, ℕ, suc, Bool, true, false, ◌||◌, List, [], ◌∷◌, length, Option, Some, None, option_map, Result, Ok, Err, refl, sym, ap, ap₂, ◌∙◌, subst}
 use Rattle.std.proofs.lemmas.List.Elements.{All-head, All-tail}
 use Rattle.wl_expr.specs.Stamped.{Stamped, plain}
 use Rattle.wl_expr.specs.Tree.{Tree, IsWithinLimits}
@@ -309,3 +309,7 @@ check_others [] m = refl
 check_others (e ∷ []) m = refl
 check_others (e ∷ f ∷ []) m = absurd (m refl)
 check_others (e ∷ f ∷ d ∷ es) m = refl
+
+pub no_items : (es : List Stamped) → length es ≡ 0 → es ≡ []
+no_items [] q = refl
+no_items (e ∷ es) q = absurd (let z : suc (length es) ≡ 0 = q in cc)

@@ -1,5 +1,5 @@
 -- How guards play, and that from one guard to the next a step is taken or the tree is less deep.
-use Rattle.std.proofs.Common.{◌≡◌, ℕ, zero, suc, ◌+◌, ◌-◌, ◌<◌, ◌≤◌, max, Bool, true, false, bytes_eq, List, [], ◌∷◌, Option, Some, None, option_map, unwrap_or, IfSome, Result, Ok, Err, refl, sym, ap, ap₂, ◌∙◌, subst, arith, true≢false, ◌&&◌}
+use Rattle.std.proofs.Common.{◌≡◌, ℕ, zero, suc, ◌+◌, ◌*◌, ◌-◌, ◌<◌, ◌≤◌, max, Bool, true, false, bytes_eq, List, [], ◌∷◌, Option, Some, None, option_map, unwrap_or, IfSome, Result, Ok, Err, refl, sym, ap, ap₂, ◌∙◌, subst, arith, true≢false, ◌&&◌}
 use Rattle.std.proofs.lemmas.Slice.Eq.{bytes_eq-Decides}
 use Rattle.std.specs.Cmp.Lexicographic.{same_text}
 use Rattle.std.proofs.lemmas.List.Elements.{All-nil, All-cons, All-head, All-tail}
@@ -90,25 +90,22 @@ numbered_leaf false n x = omega arith
 pub renamed_shallow : (b : Tree) (xs : List Name) (n : ℕ) → depth (rename b xs n) ≤ depth b
 renamed_shallow b xs n = fill-depth b (numbered_names xs n) (λ x. numbered_leaf (is_name_among x xs) n x)
 
+given_first : (c : Bool) (x : Name) (t : Tree) (o : Option Tree) → depth t ≤ 1 → depth (filled_symbol x o) ≤ 1 → depth (filled_symbol x (elim c [ true ↦ Some t | false ↦ o ])) ≤ 1
+given_first true x t o h r = h
+given_first false x t o h r = r
+
 given_leaf : (xs : List Name) (ts : List Tree) → All (λ t. depth t ≤ 1) ts → AreLeaves (given xs ts)
 given_leaf [] ts h x = omega arith
 given_leaf (y ∷ ys) [] h x = omega arith
-given_leaf (y ∷ ys) (t ∷ ts) h x = cases (bytes_eq x y)
-  where
-    cases : (c : Bool) → depth (filled_symbol x (elim c [ true ↦ Some t | false ↦ given ys ts x ])) ≤ 1
-    cases true = All-head (λ t. depth t ≤ 1) t ts h
-    cases false = given_leaf ys ts (All-tail (λ t. depth t ≤ 1) t ts h) x
+given_leaf (y ∷ ys) (t ∷ ts) h x = given_first (bytes_eq x y) x t (given ys ts x) (All-head (λ t. depth t ≤ 1) t ts h) (given_leaf ys ts (All-tail (λ t. depth t ≤ 1) t ts h) x)
+
+value_shallow_first : (o : Option Stamped) (ts : List Tree) → IfSome o (λ v. depth (plain v) ≤ 1) → All (λ t. depth t ≤ 1) ts → All (λ t. depth t ≤ 1) (cons_option (option_map plain o) ts)
+value_shallow_first None ts w r = r
+value_shallow_first (Some v) ts w r = All-cons (λ t. depth t ≤ 1) (plain v) ts w r
 
 shallow_values : (ls : List Local) → AreShallow ls → All (λ t. depth t ≤ 1) (values_of (locals_in ls))
 shallow_values [] h = All-nil (λ t. depth t ≤ 1)
-shallow_values (l ∷ ls) h = at l.value (All-head IsShallow l ls h)
-  where
-    rest : All (λ t. depth t ≤ 1) (values_of (locals_in ls))
-    rest = shallow_values ls (All-tail IsShallow l ls h)
-
-    at : (o : Option Stamped) → IfSome o (λ v. depth (plain v) ≤ 1) → All (λ t. depth t ≤ 1) (cons_option (option_map plain o) (values_of (locals_in ls)))
-    at None w = rest
-    at (Some v) w = All-cons (λ t. depth t ≤ 1) (plain v) (values_of (locals_in ls)) w rest
+shallow_values (l ∷ ls) h = value_shallow_first l.value (values_of (locals_in ls)) (All-head IsShallow l ls h) (shallow_values ls (All-tail IsShallow l ls h))
 
 pub replaced_shallow : (b : Tree) (ls : List Local) → AreShallow ls → depth (replace b (names_of (locals_in ls)) (values_of (locals_in ls))) ≤ depth b
 replaced_shallow b ls h = fill-depth b (given (names_of (locals_in ls)) (values_of (locals_in ls))) (given_leaf (names_of (locals_in ls)) (values_of (locals_in ls)) (shallow_values ls h))
@@ -301,3 +298,23 @@ module_stops seen ls b g m k e k1 h = played_stop honest_tree found_tree (scopin
 
 pub with_stops : {X : Type 0} (seen : Seen X (List scopes.Local)) (ls : List scopes.Local) (b g : Tree) (m : ℕ) (k : Evaluator) (e : Stop) (k1 : Evaluator) → Played seen (scoping.initials [] ls) k (Err e) k1 → Played found_tree (with_guard m g (Some (ls, b))) k (Err e) k1
 with_stops seen ls b g m k e k1 h = played_stop honest_tree found_tree (scoping.with_body ls b) _ k e k1 (played_stop seen honest_tree (scoping.initials [] ls) _ k e k1 h)
+
+-- ---- from one guard to the next a step is taken, or the tree is less deep
+
+pub with_falls : (s s1 di de : ℕ) → s1 ≤ s → di ≤ 1000 → (s1 ≡ s → di < de) → 8000 * s1 + 3002 + 3 * di < 8000 * s + 3001 + 3 * de
+with_falls s s1 di de a b f = at (s - s1) refl
+  where
+    at : (x : ℕ) → s - s1 ≡ x → 8000 * s1 + 3002 + 3 * di < 8000 * s + 3001 + 3 * de
+    at zero e = let q = f (omega (arith, e, a)) in omega (arith, e, a, q)
+    at (suc x) e = omega (arith, e, a, b)
+
+pub with_below : (s s1 di de n : ℕ) → s1 ≤ s → di ≤ 1000 → (s1 ≡ s → di < de) → 1001 * s + de ≤ n → 1001 * s1 + di < n
+with_below s s1 di de n a b f l = at (s - s1) refl
+  where
+    at : (x : ℕ) → s - s1 ≡ x → 1001 * s1 + di < n
+    at zero e = let q = f (omega (arith, e, a)) in omega (arith, e, a, q, l)
+    at (suc x) e = omega (arith, e, a, b, l)
+
+-- the body of a scope is less deep than the scope
+pub body_depth : (k : Needs) (g : Tree) (ls : List scopes.Local) (b : Tree) → scope_parts k (elements g) ≡ Some (ls, b) → depth b < depth g
+body_depth k g ls b h = let a = parts_depth k (elements g) ls b h in let d = elements_depth g in omega (arith, a, d)

@@ -1,8 +1,8 @@
 -- How local names are read, and bodies with their names in other places.
-use Rattle.std.proofs.Common.{◌≡◌, ℕ, zero, suc, ◌+◌, ◌<◌, ◌≤◌, Bool, true, false, ◌&&◌, ◌||◌, List, [], ◌∷◌, ◌++◌, length, map, drop, take, get_or, Option, Some, None, option_map, refl, sym, ap, ◌∙◌, arith, bytes_eq, true≢false}
+use Rattle.std.proofs.Common.{◌≡◌, ℕ, zero, suc, ◌+◌, ◌<◌, ◌≤◌, Bool, true, false, ◌&&◌, ◌||◌, List, [], ◌∷◌, ◌++◌, length, map, drop, take, get_or, Option, Some, None, is_some, option_map, Result, Ok, Err, IfOk, refl, sym, ap, ap₂, ◌∙◌, subst, arith, bytes_eq, true≢false}
 use Rattle.std.proofs.lemmas.Slice.Eq.{bytes_eq-Decides}
-use Rattle.std.proofs.lemmas.List.{map-append}
-use Rattle.std.proofs.lemmas.List.Elements.{All-nil, All-cons, All-head, All-tail, All-weaker}
+use Rattle.std.proofs.lemmas.List.{map-append, length-map}
+use Rattle.std.proofs.lemmas.List.Elements.{All-nil, All-cons, All-head, All-push, All-tail, All-weaker}
 use Rattle.std.specs.List.{All, filter_map, list_all, cons_option}
 use Rattle.std.specs.Prelude.{codes}
 use Rattle.wl_expr.specs.Same.{is_name_among}
@@ -21,7 +21,11 @@ use Rattle.wl_eval.specs.Played.{trees}
 use Rattle.wl_eval.specs.Scoping.{names_of, values_of}
 use Rattle.wl_eval.specs.declared.locals.Local.{Local}
 use Rattle.wl_eval.proofs.Bindings.{drop_item, all_dropped}
-use Rattle.wl_eval.proofs.Values.{list_of_plains}
+use Rattle.wl_eval.proofs.Values.{built_honest, list_of_plains, passed_honest}
+use Rattle.wl_expr.proofs.Passing.{all_from}
+use Rattle.wl_expr.specs.Passed.{IsFrom}
+use Rattle.wl_expr.specs.Stamped as stamped
+use Rattle.wl_expr.specs.declared.fault.ExprFault.{ExprFault}
 
 -- ---- the list of local names
 
@@ -144,6 +148,16 @@ given_taken (y ∷ ys) (t ∷ ts) x = ap (λ (o : Option Tree). elim (bytes_eq x
 pub replace_taken : (b : Tree) (xs : List Name) (ts : List Tree) → replace b (take (length ts) xs) ts ≡ replace b xs ts
 replace_taken b xs ts = λ i. fill (λ x. given_taken xs ts x i) b
 
+-- the names, as many as there are values, and the values
+pub replaced_is : (b : Tree) (ls : List Local) (us vs : List Stamped) → AreSymbols ls → us ≡ take (length (values_at ls)) (names_at ls) → vs ≡ values_at ls
+    → replace b (names_in (trees us)) (trees vs) ≡ replace b (names_of (locals_in ls)) (values_of (locals_in ls))
+replaced_is b ls us vs h p q =
+    ap₂ (λ (xs ys : List Stamped). replace b (names_in (trees xs)) (trees ys)) p q
+    ∙ ap (λ (xs : List Name). replace b xs (trees (values_at ls))) (names_taken (length (values_at ls)) ls h)
+    ∙ ap (λ (m : ℕ). replace b (take m (names_of (locals_in ls))) (trees (values_at ls))) (sym (length-map (values_at ls) plain))
+    ∙ replace_taken b (names_of (locals_in ls)) (trees (values_at ls))
+    ∙ ap (λ (ts : List Tree). replace b (names_of (locals_in ls)) ts) (values_are ls)
+
 -- ---- a numbered name
 
 pub numbered_is : (t : Tree) (n : ℕ) → t ≡ symbol (name_in t) → rename t (names_in (t ∷ [])) n ≡ symbol (numbered n (name_in t))
@@ -170,13 +184,36 @@ pub honest_names : (a : Stored) (ls : List Local) → AreLocals a ls → All (Ho
 honest_names a [] h = All-nil (HonestIn a)
 honest_names a (l ∷ ls) h = All-cons (HonestIn a) l.name (names_at ls) (All-head (IsLocal a) l ls h).name (honest_names a ls (All-tail (IsLocal a) l ls h))
 
+value_honest : (a : Stored) (o : Option Stamped) (vs : List Stamped) → HonestOption a o → All (HonestIn a) vs → All (HonestIn a) (cons_option o vs)
+value_honest a None vs w r = r
+value_honest a (Some v) vs w r = All-cons (HonestIn a) v vs w r
+
 pub honest_values : (a : Stored) (ls : List Local) → AreLocals a ls → All (HonestIn a) (values_at ls)
 honest_values a [] h = All-nil (HonestIn a)
-honest_values a (l ∷ ls) h = at l.value (All-head (IsLocal a) l ls h).value
-  where
-    rest : All (HonestIn a) (values_at ls)
-    rest = honest_values a ls (All-tail (IsLocal a) l ls h)
+honest_values a (l ∷ ls) h = value_honest a l.value (values_at ls) (All-head (IsLocal a) l ls h).value (honest_values a ls (All-tail (IsLocal a) l ls h))
 
-    at : (o : Option Stamped) → HonestOption a o → All (HonestIn a) (cons_option o (values_at ls))
-    at None w = rest
-    at (Some v) w = All-cons (HonestIn a) v (values_at ls) w rest
+-- nothing is there
+pub none_of : {X : Type 0} (o : Option X) → false ≡ is_some o → None ≡ o
+none_of None e = refl
+none_of (Some x) e = absurd (true≢false (sym e))
+
+-- what is filled hands on the stamps of the body and of the values
+pub renamed_honest : (a : Stored) (b : Stamped) (r : Result Stamped ExprFault) → ((ms : List Stamped) → IsFrom ms b → IfOk r (IsFrom ms)) → HonestIn a b → IfOk r (HonestIn a)
+renamed_honest a b (Ok e) f h = passed_honest a b e f h
+renamed_honest a b (Err d) f h = tt
+
+pub replaced_honest : (a : Stored) (b : Stamped) (vs : List Stamped) (r : Result Stamped ExprFault) → ((ms : List Stamped) → IsFrom ms b → All (IsFrom ms) vs → IfOk r (IsFrom ms)) → HonestIn a b → All (HonestIn a) vs → IfOk r (HonestIn a)
+replaced_honest a b vs (Ok e) f h w = passed_honest a (stamped.node None b (from_list vs)) e (λ ms g. f ms g.0 (all_from ms vs g.1)) (built_honest a b vs h w)
+replaced_honest a b vs (Err d) f h w = tt
+
+-- a symbol and its value, copied out of honest elements
+pub local_honest : (a : Stored) (es : List Stamped) (n v x y : Stamped) → es ≡ n ∷ v ∷ [] → All (HonestIn a) es → x ≡ n → y ≡ v → is_name (plain n) ≡ true → IsLocal a (record { name = x; value = Some y })
+local_honest a es n v x y q w e f s =
+    let g = subst (All (HonestIn a)) q w in
+    let r : IsSymbol x = subst IsSymbol (sym e) (named_symbol (plain n) s) in
+    let u : HonestIn a x = subst (HonestIn a) (sym e) (All-head (HonestIn a) n (v ∷ []) g) in
+    let z : HonestIn a y = subst (HonestIn a) (sym f) (All-head (HonestIn a) v [] (All-tail (HonestIn a) n (v ∷ []) g)) in
+    record { symbol = r; name = u; value = z }
+
+pub locals_honest_push : (a : Stored) (ls : List Local) (l : Local) (ms : List Local) → ms ≡ ls ++ l ∷ [] → AreLocals a ls → IsLocal a l → AreLocals a ms
+locals_honest_push a ls l ms e h w = subst (AreLocals a) (sym e) (All-push (IsLocal a) ls l h w)

@@ -1,29 +1,36 @@
 -- How the rows of Module, With and Block play.
-use Rattle.std.proofs.Common.{◌≡◌, ℕ, ◌+◌, ◌<◌, ◌≤◌, Bool, true, false, List, [], ◌∷◌, ◌++◌, length, drop, get_or, reverse, Option, Some, None, option_map, Result, Ok, Err, refl, sym, ap, ◌∙◌, subst}
+use Rattle.std.proofs.Common.{◌≡◌, ℕ, ◌+◌, ◌<◌, ◌≤◌, Bool, true, false, List, [], ◌∷◌, ◌++◌, length, drop, get_or, reverse, Option, Some, None, option_map, Result, Ok, Err, refl, sym, ap, ◌∙◌, subst, true≢false}
 use Rattle.std.proofs.lemmas.List.Elements.{All-push}
 use Rattle.std.proofs.lemmas.Result.{err_from_is_err_and}
 use Rattle.std.specs.Result.{IsErrAnd}
 use Rattle.wl_expr.specs.Stamped.{Stamped, plain}
-use Rattle.wl_expr.specs.Tree.{Tree}
+use Rattle.wl_expr.specs.Tree.{IsWithinLimits, Tree}
 use Rattle.wl_shape.specs.Fill.{rename, replace}
 use Rattle.wl_shape.specs.Scopes as scopes
 use Rattle.wl_shape.specs.Scopes.{names, values, locals}
 use Rattle.wl_eval.specs.State.{End}
 use Rattle.wl_eval.specs.Prog.{Prog, done, ◌>>=◌, draw, number, asking, ended, now, sized, value_of, unchanged}
-use Rattle.wl_eval.specs.LocalNames.{AreShallow, IsShallow, IsSymbol, local, local_in, with_body_of, scope_parts, aside}
+use Rattle.wl_eval.specs.LocalNames.{AreHeld, AreShallow, IsShallow, IsSymbol, local, local_in, local_list, locals_in, with_body_of, scope_parts, aside}
+use Rattle.wl_eval.specs.Replies.{stops_by_memory}
 use Rattle.wl_eval.specs.Honest.{HonestIn}
 use Rattle.wl_eval.specs.Parts.{sized_row}
-use Rattle.wl_eval.specs.Played.{Plays, Played, Seen, Leads, tree as value, honest_tree, found_tree}
+use Rattle.wl_eval.specs.Played.{Honest, Makes, Plays, Played, Seen, Leads, Sound, tree as value, honest_tree, found_tree}
 use Rattle.wl_eval.specs.ScopeRows as rows
 use Rattle.wl_eval.specs.Scoping as scoping
 use Rattle.wl_eval.specs.Scoping.{names_of, values_of}
 use Rattle.wl_eval.specs.declared.evaluator.Evaluator.{Evaluator}
 use Rattle.wl_eval.specs.declared.ends.Stop.{Stop}
+use Rattle.wl_eval.specs.declared.ends.Stop.TheVariants as stops
+use Rattle.wl_eval.specs.declared.scoping.Held.{Held}
+use Rattle.wl_expr.specs.declared.fault.ExprFault.{ExprFault}
 use Rattle.wl_eval.specs.declared.locals.Local.{Local}
 use Rattle.wl_eval.proofs.Bindings.{bind_assoc}
 use Rattle.wl_eval.proofs.Holding.{held_played}
 use Rattle.wl_eval.proofs.Playing.{plays_bind, plays_done}
-use Rattle.wl_eval.proofs.Rows.{played_stop, played_bind}
+use Rattle.wl_eval.proofs.RowParts.{row_gives}
+use Rattle.wl_expr.proofs.Small.{fits_decides}
+use Rattle.wl_eval.proofs.Rows.{later, played_stop, played_bind}
+use Rattle.wl_eval.proofs.ScopingParts.{held_later}
 
 -- ---- initial values
 
@@ -114,7 +121,7 @@ pub row_exit : {X A : Type 0} (seen : Seen X A) (p : Prog A) (f : A → Prog Tre
     → Played found_tree (sized_row (rows.given (p >>= f))) k r k1
 row_exit seen p f k k1 r e h m =
     let q = err_from_is_err_and r h in
-    subst (λ z. Played found_tree (sized_row (rows.given (p >>= f))) k z k1) (sym (q.0 ∙ ap Err q.1)) (given_stops honest_tree (p >>= f) k e k1 (played_stop seen honest_tree p f k e k1 m))
+    subst (λ z. Played found_tree (sized_row (rows.given (p >>= f))) k z k1) (sym (q.1 ∙ ap Err q.2)) (given_stops honest_tree (p >>= f) k e k1 (played_stop seen honest_tree p f k e k1 m))
 
 pub given_plays : (p : Prog Tree) (t : Tree) (k k1 : Evaluator) → Plays p k (Ok t) k1 false → Plays (rows.given p) k (Ok (Some t)) k1 false
 given_plays p t k k1 h = plays_bind p _ h plays_done
@@ -167,3 +174,67 @@ block_played seen ls vs ts inside k k1 k2 k3 k4 r h a g m b =
 -- where the initial values stop
 pub block_exit : {X Y R : Type 0} (seen : Seen X (List scopes.Local)) (seen' : Seen Y R) (ls : List scopes.Local) (inside : Prog R) (k : Evaluator) (e : Stop) (k1 : Evaluator) → Played seen (scoping.initials [] ls) k (Err e) k1 → Played seen' (scoping.in_block ls inside) k (Err e) k1
 block_exit seen seen' ls inside k e k1 m = played_stop seen seen' (scoping.initials [] ls) _ k e k1 m
+
+-- ---- the same local names, lent as a slice
+
+module _ {xs ys : List Local} (e : xs ≡ ys) where
+  pub initials_stop : (k k1 : Evaluator) (d : Stop) → Played local_list (scoping.initials [] (locals_in xs)) k (Err d) k1 → Played local_list (scoping.initials [] (locals_in ys)) k (Err d) k1
+  initials_stop k k1 d h = subst (λ (zs : List Local). Played local_list (scoping.initials [] (locals_in zs)) k (Err d) k1) e h
+
+  pub initials_play : {k k1 : Evaluator} {vs : List scopes.Local} → Plays (scoping.initials [] (locals_in xs)) k (Ok vs) k1 false → Plays (scoping.initials [] (locals_in ys)) k (Ok vs) k1 false
+  initials_play {k} {k1} {vs} h = subst (λ (zs : List Local). Plays (scoping.initials [] (locals_in zs)) k (Ok vs) k1 false) e h
+
+  pub locals_play : (n : ℕ) {k k1 : Evaluator} → Plays (scoping.set_locals n (locals_in xs)) k (Ok tt) k1 false → Plays (scoping.set_locals n (locals_in ys)) k (Ok tt) k1 false
+  locals_play n {k} {k1} h = subst (λ (zs : List Local). Plays (scoping.set_locals n (locals_in zs)) k (Ok tt) k1 false) e h
+
+  pub aside_play : {ts : List scoping.Taken} {k k1 : Evaluator} → Plays (aside (locals_in xs)) k (Ok ts) k1 false → Plays (aside (locals_in ys)) k (Ok ts) k1 false
+  aside_play {ts} {k} {k1} h = subst (λ (zs : List Local). Plays (aside (locals_in zs)) k (Ok ts) k1 false) e h
+
+  pub renamed_of : (b : Tree) (n : ℕ) (r : Result Stamped ExprFault) → Makes (rename b (names_of (locals_in xs)) n) r → Makes (rename b (names_of (locals_in ys)) n) r
+  renamed_of b n r h = subst (λ (zs : List Local). Makes (rename b (names_of (locals_in zs)) n) r) e h
+
+  pub replaced_of : (b : Tree) (r : Result Stamped ExprFault) → Makes (replace b (names_of (locals_in xs)) (values_of (locals_in xs))) r → Makes (replace b (names_of (locals_in ys)) (values_of (locals_in ys))) r
+  replaced_of b r h = subst (λ (zs : List Local). Makes (replace b (names_of (locals_in zs)) (values_of (locals_in zs))) r) e h
+
+-- ---- after an inside that memory has not stopped
+
+pub inside_sound : {X R : Type 0} (seen : Seen X R) (p : Prog R) (k k1 : Evaluator) (r : Result X Stop) → stops_by_memory r ≡ false → Played seen p k r k1 → Sound k → Sound k1
+inside_sound seen p k k1 (Ok x) n h s = h.0.sound s
+inside_sound seen p k k1 (Err stops.Memory) n h s = absurd (true≢false n)
+inside_sound seen p k k1 (Err (stops.Thrown v t)) n h s = h.0.sound s
+inside_sound seen p k k1 (Err stops.Aborted) n h s = h.0.sound s
+inside_sound seen p k k1 (Err stops.BudgetEnded) n h s = h.0.sound s
+inside_sound seen p k k1 (Err stops.Broke) n h s = h.0.sound s
+inside_sound seen p k k1 (Err stops.Continued) n h s = h.0.sound s
+
+pub inside_held : {X R : Type 0} (seen : Seen X R) (p : Prog R) (k k1 : Evaluator) (r : Result X Stop) (hs : List Held) → stops_by_memory r ≡ false → Played seen p k r k1 → AreHeld k hs → AreHeld k1 hs
+inside_held seen p k k1 (Ok x) hs n h w = held_later h.0 hs w
+inside_held seen p k k1 (Err stops.Memory) hs n h w = absurd (true≢false n)
+inside_held seen p k k1 (Err (stops.Thrown v t)) hs n h w = held_later h.0 hs w
+inside_held seen p k k1 (Err stops.Aborted) hs n h w = held_later h.0 hs w
+inside_held seen p k k1 (Err stops.BudgetEnded) hs n h w = held_later h.0 hs w
+inside_held seen p k k1 (Err stops.Broke) hs n h w = held_later h.0 hs w
+inside_held seen p k k1 (Err stops.Continued) hs n h w = held_later h.0 hs w
+
+-- a value, of which it is asked only that it is honest
+pub honest_played : (p : Prog Tree) (k k1 : Evaluator) (r : Result Stamped Stop) → Played value p k r k1 → Played honest_tree p k r k1
+honest_played p k k1 (Ok v) h = (h.0, h.1.0)
+honest_played p k k1 (Err stops.Memory) h = tt
+honest_played p k k1 (Err (stops.Thrown v t)) h = h
+honest_played p k k1 (Err stops.Aborted) h = h
+honest_played p k k1 (Err stops.BudgetEnded) h = h
+honest_played p k k1 (Err stops.Broke) h = h
+honest_played p k k1 (Err stops.Continued) h = h
+
+-- what a Block gives of its value
+pub block_gives : (p : Prog Tree) (k k1 : Evaluator) (v : Stamped) (r : Result Stamped Stop) → r ≡ Ok v → Played honest_tree p k r k1 → IsWithinLimits (plain v) → Played found_tree (sized_row (rows.given p)) k (Ok (Some v)) k1
+block_gives p k k1 v r e h f =
+    let w = subst (λ z. Played honest_tree p k z k1) e h in
+    row_gives (rows.given p) k k1 v (given_plays p (plain v) k k1 w.0) ((fits_decides (plain v)).1 f) w.1
+
+pub block_stops : (p : Prog Tree) (k k1 : Evaluator) (s : Stop) (r : Result Stamped Stop) → r ≡ Err s → Played honest_tree p k r k1 → Played found_tree (sized_row (rows.given p)) k (Err s) k1
+block_stops p k k1 s r e h = given_stops honest_tree p k s k1 (subst (λ z. Played honest_tree p k z k1) e h)
+
+-- a stop that is handed on
+pub err_played : {X R : Type 0} (seen : Seen X R) (p : Prog R) (k k1 : Evaluator) (r : Result X Stop) (d : Stop) → IsErrAnd r (λ x. x ≡ d) → Played seen p k (Err d) k1 → Played seen p k r k1
+err_played seen p k k1 r d h m = let q = err_from_is_err_and r h in subst (λ z. Played seen p k z k1) (sym (q.1 ∙ ap Err q.2)) m

@@ -1,5 +1,5 @@
 -- How Module and Block change entries.
-use Rattle.std.proofs.Common.{◌≡◌, ℕ, zero, suc, ◌+◌, ◌/◌, ◌%◌, ◌<◌, ◌≤◌, ◌&&◌, not, nat_lt, Bool, true, false, ◌==◌, List, [], ◌∷◌, ◌++◌, length, map, drop, get_or, reverse, Option, Some, None, is_some, option_map, unwrap_or, Result, Ok, refl, sym, ap, ap₂, ◌∙◌, subst, arith, bytes_eq}
+use Rattle.std.proofs.Common.{◌≡◌, ℕ, zero, suc, ◌+◌, ◌-◌, ◌/◌, ◌%◌, ◌<◌, ◌≤◌, ◌&&◌, not, nat_lt, Bool, true, false, ◌==◌, List, [], ◌∷◌, ◌++◌, length, map, drop, take, get_or, reverse, Option, Some, None, is_some, option_map, unwrap_or, Result, Ok, refl, sym, ap, ap₂, ◌∙◌, subst, subst₂, arith, bytes_eq}
 use Rattle.std.proofs.lemmas.Bool.Decides.{nat_tests}
 use Rattle.std.proofs.lemmas.List.{map-append, reverse-append}
 use Rattle.std.proofs.lemmas.List.Elements.{All-nil, All-cons, All-head, All-tail, All-push, All-weaker}
@@ -39,16 +39,19 @@ last_of d [] = d
 last_of d (c ∷ cs) = last_of c cs
 
 last_append : (d : ℕ) (xs : List ℕ) (y : ℕ) (ys : List ℕ) → last_of d (xs ++ y ∷ ys) ≡ last_of y ys
+unfolding last_of
 last_append d [] y ys = refl
 last_append d (x ∷ xs) y ys = last_append x xs y ys
 
 last_onto : (k n d c : ℕ) (acc : List ℕ) → last_of d (digits_onto k 10 false n (c ∷ acc)) ≡ last_of c acc
+unfolding last_of
 last_onto zero n d c acc = refl
 last_onto (suc k) n d c acc =
     let g = digit_glyph false (n % 10) in
     elim (n / 10 == 0) as (λ (b : Bool). last_of d (if b then g ∷ c ∷ acc else digits_onto k 10 false (n / 10) (g ∷ c ∷ acc)) ≡ last_of c acc) [ true ↦ refl | false ↦ last_onto k (n / 10) d g (c ∷ acc) ]
 
 last_first : (k n d : ℕ) → last_of d (digits_onto (suc k) 10 false n []) ≡ digit_glyph false (n % 10)
+unfolding last_of
 last_first k n d =
     let g = digit_glyph false (n % 10) in
     elim (n / 10 == 0) as (λ (b : Bool). last_of d (if b then g ∷ [] else digits_onto k 10 false (n / 10) (g ∷ [])) ≡ g) [ true ↦ refl | false ↦ last_onto k (n / 10) d g [] ]
@@ -71,6 +74,7 @@ not_named x y h g false e = e
 not_named x y h g true e = absurd (let q = ap (last_of 0) (same_text x y (sym e)) in omega (arith, h, g, q))
 
 pub numbered_no_limit : (x : Name) (n : ℕ) → is_limit (numbered n x) ≡ false
+unfolding last_of
 numbered_no_limit x n =
     let y = numbered n x in
     let l = last_numbered x n in
@@ -239,14 +243,14 @@ module _ (l : scopes.Local) (k k1 k2 : Evaluator) (p : Bool) (h : Plays (is_prot
 
 -- ---- values
 
-done_protects : (k k1 : Evaluator) → Plays (done tt) k (Ok tt) k1 false → Protects k k1
+done_protects : (k k1 : Evaluator) → Plays (done (tt {0})) k (Ok (tt {0})) k1 false → Protects k k1
 unfolding interp
 done_protects k k1 h y = sym (ap (λ (s : State). (s.world.definitions y).attributes.protected) h.leaves)
 
 pub given_protects : (l : Local) (k k1 : Evaluator) → Plays (scoping.set_given (local_in l)) k (Ok tt) k1 false → Protects k k1
 given_protects l k k1 h = at l.value h
   where
-    at : (o : Option Stamped) → Plays (elim (option_map plain o) [ None ↦ done tt | Some v ↦ scoping.set_own (name_in (plain l.name)) v ]) k (Ok tt) k1 false → Protects k k1
+    at : (o : Option Stamped) → Plays (elim (option_map plain o) [ None ↦ done (tt {0}) | Some v ↦ scoping.set_own (name_in (plain l.name)) v ]) k (Ok (tt {0})) k1 false → Protects k k1
     at None h = done_protects k k1 h
     at (Some v) h = put_protects (name_in (plain l.name)) _ k k1 h
 
@@ -265,3 +269,70 @@ held_init k hs h gs e w = all_front (λ (z : Held). IsTaken k (name_in (plain z.
 
 pub held_last : (k : Evaluator) (hs : List Held) (h : Held) (gs : List Held) {x : Name} → gs ≡ hs ++ h ∷ [] → x ≡ name_in (plain h.name) → AreHeld k gs → IsTaken k x h.taken
 held_last k hs h gs e q w = subst (λ z. IsTaken k z h.taken) (sym q) (all_last (λ (z : Held). IsTaken k (name_in (plain z.name)) z.taken) hs h (subst (AreHeld k) e w))
+
+-- ---- no value
+
+pub given_none : (l : Local) (k : Evaluator) → l.value ≡ None → Plays (scoping.set_given (local_in l)) k (Ok tt) k false
+given_none l k e = at l.value e
+  where
+    at : (o : Option Stamped) → o ≡ None → Plays (elim (option_map plain o) [ None ↦ done (tt {0}) | Some v ↦ scoping.set_own (name_in (plain l.name)) v ]) k (Ok (tt {0})) k false
+    at None e = plays_done
+    at (Some v) e = absurd (let q : Some v ≡ None = e in cc)
+
+pub local_none : (n : ℕ) (l : Local) (k : Evaluator) → l.value ≡ None → Plays (scoping.set_local n (local_in l)) k (Ok tt) k false
+local_none n l k e = at l.value e
+  where
+    at : (o : Option Stamped) → o ≡ None → Plays (elim (option_map plain o) [ None ↦ done (tt {0}) | Some v ↦ scoping.set_numbered (numbered n (name_in (plain l.name))) v ]) k (Ok (tt {0})) k false
+    at None e = plays_done
+    at (Some v) e = absurd (let q : Some v ≡ None = e in cc)
+
+-- ---- a variable of a Module
+
+abbrev numbered_by : Name → Tree → Bool → Prog (Unit {0})
+numbered_by x v p = elim p [ true ↦ message (codes "Set") (codes "wrsym") (symbol x ∷ []) | false ↦ scoping.set_own x v ]
+
+pub numbered_plays : (x y : Name) (v : Tree) (k k1 k2 : Evaluator) (p b : Bool) → y ≡ x → p ≡ b → Plays (is_protected y) k (Ok p) k1 false → Plays (numbered_by x v b) k1 (Ok tt) k2 false → Plays (scoping.set_numbered x v) k (Ok tt) k2 false
+numbered_plays x y v k k1 k2 p b e q h m = plays_bind (is_protected x) (numbered_by x v) (subst (λ z. Plays (is_protected x) k (Ok z) k1 false) q (subst (λ n. Plays (is_protected n) k (Ok p) k1 false) e h)) m
+
+-- what nothing comes off has nothing
+pub none_held : (hs gs : List Held) (n : ℕ) → hs ≡ gs ++ [] → gs ≡ take (n - 1) hs → n ≡ 0 → hs ≡ []
+none_held hs gs n e r z = e ∙ ap (λ (xs : List Held). xs ++ []) (r ∙ ap (λ (m : ℕ). take (m - 1) hs) z)
+
+-- ---- a name that Block takes, or not, as the code looks at it
+
+and_false : (b : Bool) → (b && false) ≡ false
+and_false true = refl
+and_false false = refl
+
+abbrev refuses : Name → Option Tree → Bool
+refuses x o = is_limit x && not (unwrap_or (option_map (limit_allows x) o) false)
+
+module _ (l : Local) (y : Name) (k k1 k2 : Evaluator) (p : Bool) (n : y ≡ name_in (plain l.name)) (h : Plays (is_protected y) k (Ok p) k1 false) where
+  abbrev named : Name
+  named = name_in (plain l.name)
+
+  looked : Plays (is_protected (name_in (plain l.name))) k (Ok p) k1 false
+  looked = subst (λ z. Plays (is_protected z) k (Ok p) k1 false) n h
+
+  pub block_refused : (us : List Tree) → us ≡ symbol named ∷ [] → p ≡ true → Plays (message (codes "Set") (codes "wrsym") us) k1 (Ok tt) k2 false → Plays (scoping.may_block (local_in l)) k (Ok false) k2 false
+  block_refused us e q m = may_refused (local_in l) k k1 k2 p looked q (subst (λ zs. Plays (message (codes "Set") (codes "wrsym") zs) k1 (Ok tt) k2 false) e m)
+
+  pub block_other : p ≡ false → is_limit y ≡ false → Plays (scoping.may_block (local_in l)) k (Ok true) k1 false
+  block_other q i = may_free (local_in l) k k1 k1 p looked q (ap (λ b. b && not (unwrap_or (option_map (limit_allows named) (option_map plain l.value)) false)) (ap is_limit (sym n) ∙ i)) refl
+
+  pub block_allowed : p ≡ false → (v : Stamped) → l.value ≡ Some v → limit_allows y (plain v) ≡ true → Plays (scoping.may_block (local_in l)) k (Ok true) k1 false
+  block_allowed q v e a =
+      may_free (local_in l) k k1 k1 p looked q (ap (λ (o : Option Stamped). refuses named (option_map plain o)) e ∙ ap (λ b. is_limit named && not b) (ap (λ z. limit_allows z (plain v)) (sym n) ∙ a) ∙ and_false (is_limit named)) refl
+
+  pub block_none : p ≡ false → is_limit y ≡ true → l.value ≡ None → (t : Tree) → t ≡ null_symbol → Plays (message y (codes "limset") (symbol y ∷ t ∷ [])) k1 (Ok tt) k2 false → Plays (scoping.may_block (local_in l)) k (Ok false) k2 false
+  block_none q i e t w m =
+      may_not (local_in l) k k1 k2 p looked q (ap (λ (o : Option Stamped). refuses named (option_map plain o)) e ∙ ap (λ b. b && true) (ap is_limit (sym n) ∙ i))
+      (subst (λ (o : Option Stamped). Plays (message named (codes "limset") (symbol named ∷ unwrap_or (option_map plain o) null_symbol ∷ [])) k1 (Ok tt) k2 false) (sym e)
+      (subst₂ (λ (z : Name) (u : Tree). Plays (message z (codes "limset") (symbol z ∷ u ∷ [])) k1 (Ok tt) k2 false) n w m))
+
+  pub block_not : p ≡ false → is_limit y ≡ true → (v : Stamped) → l.value ≡ Some v → limit_allows y (plain v) ≡ false → Plays (message y (codes "limset") (symbol y ∷ plain v ∷ [])) k1 (Ok tt) k2 false → Plays (scoping.may_block (local_in l)) k (Ok false) k2 false
+  block_not q i v e a m =
+      may_not (local_in l) k k1 k2 p looked q
+      (ap (λ (o : Option Stamped). refuses named (option_map plain o)) e ∙ ap₂ (λ b c. b && not c) (ap is_limit (sym n) ∙ i) (ap (λ z. limit_allows z (plain v)) (sym n) ∙ a))
+      (subst (λ (o : Option Stamped). Plays (message named (codes "limset") (symbol named ∷ unwrap_or (option_map plain o) null_symbol ∷ [])) k1 (Ok tt) k2 false) (sym e)
+      (subst (λ (z : Name). Plays (message z (codes "limset") (symbol z ∷ plain v ∷ [])) k1 (Ok tt) k2 false) n m))

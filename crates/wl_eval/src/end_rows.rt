@@ -71,28 +71,28 @@ pub(crate) fn throw_row(args: &[Expr]) -> Result<Option<Expr>, Stop>
 pub(crate) fn abort_row(args: &[Expr]) -> Result<Option<Expr>, Stop>
     ensures { (k : Kernel) → Played found_tree (sized_row (rows.abort_row (trees args.now))) k result k }
 {
-    match args {
-        [] => Err(Stop::Aborted),
-        _ => Ok(None),
+    if args.len() != 0 {
+        return Ok(None);
     }
+    Err(Stop::Aborted)
 }
 
 pub(crate) fn break_row(args: &[Expr]) -> Result<Option<Expr>, Stop>
     ensures { (k : Kernel) → Played found_tree (sized_row (rows.break_row (trees args.now))) k result k }
 {
-    match args {
-        [] => Err(Stop::Broke),
-        _ => Ok(None),
+    if args.len() != 0 {
+        return Ok(None);
     }
+    Err(Stop::Broke)
 }
 
 pub(crate) fn continue_row(args: &[Expr]) -> Result<Option<Expr>, Stop>
     ensures { (k : Kernel) → Played found_tree (sized_row (rows.continue_row (trees args.now))) k result k }
 {
-    match args {
-        [] => Err(Stop::Continued),
-        _ => Ok(None),
+    if args.len() != 0 {
+        return Ok(None);
     }
+    Err(Stop::Continued)
 }
 
 impl Evaluator {

@@ -18,6 +18,7 @@ use crate::ends::Stop;
 use crate::evaluator::Evaluator;
 use crate::locals::{renamed, replaced};
 use crate::operands::two;
+use crate::replies::stops_by_memory;
 use crate::scope_rows::scope_parts;
 use wl_expr::{Expr, Look};
 use wl_ports::{Ledger, Work};
@@ -250,6 +251,9 @@ impl Evaluator {
         let locals = self.initials(names.as_slice(), work)?;
         let held = self.set_aside(locals.as_slice(), work)?;
         let found = self.guarded_value(body, work);
+        if stops_by_memory(&found) {
+            return Err(Stop::Memory);
+        }
         self.give_all(held);
         found
     }

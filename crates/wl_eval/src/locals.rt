@@ -80,11 +80,12 @@ fn local_of(e: &Expr, needs_value: bool) -> Result<Option<Local>, Memory>
     if !is_symbol(head, "Set") {
         return Ok(None);
     }
-    if !is_name(&args[0]) {
+    let name = &args[0];
+    if !is_name(name) {
         return Ok(None);
     }
     Ok(Some(Local {
-        name: args[0].copy()?,
+        name: name.copy()?,
         value: Some(args[1].copy()?),
     }))
 }
@@ -174,7 +175,8 @@ pub(crate) fn replaced(alloc: Global, body: &Expr, locals: &[Local]) -> Result<E
 {
     let mut names = names_of(alloc, locals)?;
     let values = values_of(alloc, locals)?;
+    let given = values.as_slice();
     // In With each name has a value.
-    names.truncate(values.len());
-    replace(alloc, body, names.as_slice(), values.as_slice())
+    names.truncate(given.len());
+    replace(alloc, body, names.as_slice(), given)
 }

@@ -58,7 +58,7 @@ pub(crate) fn caught(end: End) -> Result<Reply, Stop>
 }
 
 /// Whether memory ran out.
-pub(crate) fn stops_by_memory(answer: &Result<Option<Expr>, Stop>) -> bool
+pub(crate) fn stops_by_memory<X>(answer: &Result<X, Stop>) -> bool
     ensures { result ≡ stops_by_memory answer.now }
 {
     match answer {

@@ -15,6 +15,7 @@ use crate::ends::Stop;
 use crate::evaluator::Evaluator;
 use crate::locals::{Local, locals, renamed, replaced};
 use crate::operands::two;
+use crate::replies::stops_by_memory;
 use std::alloc::Global;
 use wl_expr::Expr;
 use wl_ports::{Ledger, Memory, Work};
@@ -135,10 +136,17 @@ impl Evaluator {
         let locals = self.initials(names.as_slice(), work)?;
         let held = self.set_aside(locals.as_slice(), work)?;
         let value = self.value_of(body, work);
+        if stops_by_memory(&value) {
+            return Err(Stop::Memory);
+        }
         self.give_all(held);
-        let value = value?;
-        // That an expression is within the limits is a clause of `weight`.
-        let _weight = value.weight();
-        Ok(Some(value))
+        match value {
+            Err(stop) => Err(stop),
+            Ok(value) => {
+                // That an expression is within the limits is a clause of `weight`.
+                let _weight = value.weight();
+                Ok(Some(value))
+            }
+        }
     }
 }

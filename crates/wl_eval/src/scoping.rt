@@ -2,7 +2,7 @@
 ghost use Rattle.std.specs.Prelude.{◌≡◌, [], IfOk, Ok, OnOk, false, map, reverse, true};
 ghost use Rattle.wl_expr.specs.Stamped.{plain};
 ghost use Rattle.wl_rules.specs.Stored.{definitions};
-ghost use Rattle.wl_eval.specs.LeftSides.{is_limit};
+ghost use Rattle.wl_eval.specs.LeftSides.{is_limit, limit_allows};
 ghost use Rattle.wl_eval.specs.LocalNames.{AreFree, AreHeld, AreLocals, IsFree, IsLocal, IsSymbol, aside, held_in, local_in, locals_in, name_in};
 ghost use Rattle.wl_eval.specs.Played.{Honest, IsUnprotected, MayHave, Plays, Sound};
 ghost use Rattle.wl_eval.specs.Scoping as scoping;
@@ -22,6 +22,16 @@ use wl_rules::{Rule, RuleKind};
 pub(crate) struct Held {
     pub(crate) name: Expr,
     pub(crate) taken: Taken,
+}
+
+/// Whether the limit of this name may have the value.
+fn allows(name: &str, value: &Expr) -> bool
+    ensures { result ≡ limit_allows name.now (plain value.now) }
+{
+    match limit_allows(name, value) {
+        Some(allows) => allows,
+        None => false,
+    }
 }
 
 impl Evaluator {
@@ -129,7 +139,7 @@ impl Evaluator {
             self.refuse_limit(name, &local.name, &null, work)?;
             return Ok(false);
         };
-        if limit_allows(name, value) == Some(true) {
+        if allows(name, value) {
             return Ok(true);
         }
         self.refuse_limit(name, &local.name, value, work)?;
@@ -151,9 +161,10 @@ impl Evaluator {
     {
         let mut others = Vec::new(self.alloc);
         for i in 0..locals.len() {
-            let may_block = self.may_block(&locals[i], work)?;
+            let local = &locals[i];
+            let may_block = self.may_block(local, work)?;
             if may_block {
-                others.push(locals[i].copy()?)?;
+                others.push(local.copy()?)?;
             }
         }
         Ok(others)

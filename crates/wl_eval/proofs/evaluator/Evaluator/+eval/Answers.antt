@@ -113,6 +113,19 @@ use Rattle.wl_eval.proofs.DefiningRows.{by, read_some, set_both, set_row-by, del
 use Rattle.wl_eval.proofs.MatchRowParts.{row_count}
 use Rattle.wl_eval.proofs.ReplaceRowParts.{replacing_stops}
 use Rattle.std.proofs.Common.{is_some}
+use Rattle.wl_eval.specs.Guards as guards
+use Rattle.wl_eval.specs.Guards.{guarded_value}
+use Rattle.wl_eval.specs.Honest.{HonestIn}
+use Rattle.wl_eval.specs.LocalNames.{held_in, scope_parts}
+use Rattle.wl_eval.specs.Match.{guard_within, value_inside}
+use Rattle.wl_eval.specs.Played.{HonestMaybe, honest_tree}
+use Rattle.std.proofs.Common.{◌*◌}
+use Rattle.wl_expr.specs.Words.{elements}
+use Rattle.wl_expr.specs.Tree.{depth}
+use Rattle.wl_shape.specs.Scopes as scopes
+use Rattle.wl_eval.proofs.LocalParts.{are_symbols}
+use Rattle.wl_eval.proofs.ScopeRowParts.{aside_play, block_gives, block_stops, err_played, honest_played, initials_play, initials_stop, inside_held, inside_sound, locals_play, renamed_of, replaced_of}
+use Rattle.wl_eval.proofs.GuardParts.{body_depth, condition_by, condition_gives, condition_is, condition_on, module_guarded, module_sized, module_stops, renamed_shallow, replaced_shallow, with_below, with_falls, with_guarded, with_sized, with_stops}
 use Rattle.wl_eval.proofs.evaluator.Evaluator.+eval.Goals as goal
 
 -- ---- which rule applies
@@ -2087,7 +2100,7 @@ initial-returns-in_default-clause-played g t c =
 pub initial-returns-in_err-value-clause-played : goal.initial-returns-in_err-value-clause-played
 initial-returns-in_err-value-clause-played g t c =
     let x = c.args.name.now in
-    subst (λ z. Played local_names.local z c.args.self.now c.from_residual.result c.value_of.new.self) (sym (initial_some x c.in-Some.value c.in-Some.is)) (exit value local_names.local _ _ _ _ _ _ c.from_residual.ensures.1 c.in_err-value.ensures.played)
+    subst (λ z. Played local_names.local z c.args.self.now c.from_residual-in_err-value.result c.value_of.new.self) (sym (initial_some x c.in-Some.value c.in-Some.is)) (exit value local_names.local _ _ _ _ _ _ c.from_residual-in_err-value.ensures.1 c.in_err-value.ensures.played)
 
 pub initial-returns-clause-played : goal.initial-returns-clause-played
 initial-returns-clause-played g t c =
@@ -2096,8 +2109,8 @@ initial-returns-clause-played g t c =
     let k1 = c.value_of.new.self in
     let v = c.in_ok-value.value in
     let h = c.in_ok-value.ensures.played in
-    let e = c.in_ok-copy.ensures in
-    initial_gives x v c.in_ok-copy.field-0 k k1 (initial_some x c.in-Some.value c.in-Some.is) e h.0 (later h.0 x.name c.requires.local.name) h.1.0 c.requires.local.symbol
+    let e = c.in_ok-copy-2.ensures in
+    initial_gives x v c.in_ok-copy-2.field-0 k k1 (initial_some x c.in-Some.value c.in-Some.is) e h.0 (later h.0 x.name c.requires.local.name) h.1.0 c.requires.local.symbol
 
 pub initials-initial-requires : goal.initials-initial-requires
 initials-initial-requires g t c κs within =
@@ -2110,7 +2123,7 @@ initials-returns-in_err-local-clause-played g t c =
     let ns = c.args.names.now in
     let x = c.index-names-i.result in
     leads_out local_names.local local_names.local_list _ _ _ _ _ _ _ _ _ l.invariant.leads (initials_is (locals_in l.values.items) (local_in x) (locals_in (drop l.i ns)) (locals_in (drop (l.i + 1) ns)) (locals_at ns l.i x c.loop-i-test.true c.index-names-i.is))
-    c.from_residual.ensures.1 c.in_err-local.ensures.played
+    c.from_residual-in_err-local.ensures.1 c.in_err-local.ensures.played
 
 pub initials-loop-i-preserved : goal.initials-loop-i-preserved
 initials-loop-i-preserved g t c =
@@ -2139,15 +2152,31 @@ initials-returns-clause-played g t c =
 -- ---- Module
 
 pub module_row-returns-in_default-clause-played : goal.module_row-returns-in_default-clause-played
-module_row-returns-in_default-clause-played g t c = row_stays _ _ (module_row-on (trees c.args.args.now) ∙ ap module_on (sym c.in_default.ensures.read))
+module_row-returns-in_default-clause-played g t c = row_stays _ _ (module_row-on (trees c.args.args.now) ∙ ap module_on (sym (rw c.in_default.is at c.in_ok-names.ensures).read))
 
 pub module_row-initials-requires : goal.module_row-initials-requires
-module_row-initials-requires g t c κs within = (search rules, (within, (c.requires.sound, subst (local_names.AreLocals c.args.self.now.store) (sym c.as_slice.ensures.value) (c.in-Some.ensures.honest c.args.self.now.store c.requires.args).0)))
+module_row-initials-requires g t c κs within = (search rules, (within, (c.requires.sound, subst (local_names.AreLocals c.args.self.now.store) (sym c.as_slice.ensures.value) ((rw c.in-Some.is at c.in_ok-names.ensures).honest c.args.self.now.store c.requires.args).0)))
 
 pub module_row-returns-in_err-locals-clause-played : goal.module_row-returns-in_err-locals-clause-played
 module_row-returns-in_err-locals-clause-played g t c =
-    row_at _ _ c.args.self.now c.from_residual.result c.initials.new.self (module_row-on (trees c.args.args.now) ∙ ap module_on (sym c.in-Some.ensures.read))
-    (scope_exit local_names.local_list _ _ _ _ _ _ c.from_residual.ensures.1 c.in_err-locals.ensures.played)
+    row_at _ _ c.args.self.now c.from_residual-in_err-locals.result c.initials.new.self (module_row-on (trees c.args.args.now) ∙ ap module_on (sym (rw c.in-Some.is at c.in_ok-names.ensures).read))
+    (scope_exit local_names.local_list _ _ _ _ _ _ c.from_residual-in_err-locals.ensures.1 (initials_stop c.as_slice.ensures.value _ _ _ c.in_err-locals.ensures.played))
+
+pub module_row-set_locals-requires : goal.module_row-set_locals-requires
+module_row-set_locals-requires g t c =
+    let h = c.in_ok-locals.ensures.played in
+    let d = c.draw_number-number.ensures.played in
+    record { sound = d.sound (h.0.sound c.requires.sound); locals = subst (local_names.AreLocals c.draw_number-number.new.self.store) (sym c.as_slice-2.ensures.value) (locals_later d c.in_ok-locals.locals.items h.1) }
+
+pub module_row-renamed-requires : goal.module_row-renamed-requires
+module_row-renamed-requires g t c = record { symbols = subst local_names.AreSymbols (sym c.as_slice-3.ensures.value) (are_symbols _ c.in_ok-locals.locals.items c.in_ok-locals.ensures.played.1) }
+
+pub module_row-given-requires : goal.module_row-given-requires
+module_row-given-requires g t c =
+    let h = c.in_ok-locals.ensures.played in
+    let d = c.draw_number-number.ensures.played in
+    let m = c.in_ok-set_locals.ensures.played in
+    record { honest = c.renamed-made.ensures.honest c.set_locals.new.self.store (later m _ (later d _ (later h.0 _ ((rw c.in-Some.is at c.in_ok-names.ensures).honest c.args.self.now.store c.requires.args).1))) }
 
 pub module_row-returns-clause-played : goal.module_row-returns-clause-played
 module_row-returns-clause-played g t c =
@@ -2155,55 +2184,390 @@ module_row-returns-clause-played g t c =
     let b = plain c.in-Some.body.now in
     let vs = locals_in c.in_ok-locals.locals.items in
     let n = c.draw_number-number.result in
-    row_at _ _ c.args.self.now c.given.result c.given.new.self (module_row-on (trees c.args.args.now) ∙ ap module_on (sym c.in-Some.ensures.read))
-    (row_made _ _ _ c.set_locals.new.self _ _ (given_plays _ _ _ c.set_locals.new.self (module_plays ls vs b _ _ c.in_ok-locals.ensures.played.0 n _ _ c.draw_number-number.ensures.played c.in_ok-set_locals.ensures.played)) (c.given.ensures.played _ c.renamed-made.ensures.made))
-
-pub module_row-set_locals-requires : goal.module_row-set_locals-requires
-module_row-set_locals-requires g t c =
-    let h = c.in_ok-locals.ensures.played in
-    let d = c.draw_number-number.ensures.played in
-    (d.sound (h.0.sound c.requires.sound), subst (local_names.AreLocals c.draw_number-number.new.self.store) (sym c.as_slice-2.ensures.value) (locals_later d c.in_ok-locals.locals.items h.1))
-
-pub module_row-given-requires : goal.module_row-given-requires
-module_row-given-requires g t c =
-    let h = c.in_ok-locals.ensures.played in
-    let d = c.draw_number-number.ensures.played in
-    let m = c.in_ok-set_locals.ensures.played in
-    c.renamed-made.ensures.honest c.set_locals.new.self.store (later m _ (later d _ (later h.0 _ (c.in-Some.ensures.honest c.args.self.now.store c.requires.args).1)))
+    row_at _ _ c.args.self.now c.given.result c.given.new.self (module_row-on (trees c.args.args.now) ∙ ap module_on (sym (rw c.in-Some.is at c.in_ok-names.ensures).read))
+    (row_made _ _ _ c.set_locals.new.self _ _
+    (given_plays _ _ _ c.set_locals.new.self (module_plays ls vs b _ _ (initials_play c.as_slice.ensures.value c.in_ok-locals.ensures.played.0) n _ _ c.draw_number-number.ensures.played (locals_play c.as_slice-2.ensures.value c.draw_number-number.result c.in_ok-set_locals.ensures.played)))
+    (c.given.ensures.played _ (renamed_of c.as_slice-3.ensures.value (plain c.in-Some.body.now) c.draw_number-number.result c.renamed-made.result c.renamed-made.ensures.made)))
 
 -- ---- With
 
 pub with_row-returns-in_default-clause-played : goal.with_row-returns-in_default-clause-played
-with_row-returns-in_default-clause-played g t c = row_stays _ _ (with_row-on (trees c.args.args.now) ∙ ap with_on (sym c.in_default.ensures.read))
+with_row-returns-in_default-clause-played g t c = row_stays _ _ (with_row-on (trees c.args.args.now) ∙ ap with_on (sym (rw c.in_default.is at c.in_ok-names.ensures).read))
 
 pub with_row-initials-requires : goal.with_row-initials-requires
-with_row-initials-requires g t c κs within = (search rules, (within, (c.requires.sound, subst (local_names.AreLocals c.args.self.now.store) (sym c.as_slice.ensures.value) (c.in-Some.ensures.honest c.args.self.now.store c.requires.args).0)))
+with_row-initials-requires g t c κs within = (search rules, (within, (c.requires.sound, subst (local_names.AreLocals c.args.self.now.store) (sym c.as_slice.ensures.value) ((rw c.in-Some.is at c.in_ok-names.ensures).honest c.args.self.now.store c.requires.args).0)))
 
 pub with_row-returns-in_err-locals-clause-played : goal.with_row-returns-in_err-locals-clause-played
 with_row-returns-in_err-locals-clause-played g t c =
-    row_at _ _ c.args.self.now c.from_residual.result c.initials.new.self (with_row-on (trees c.args.args.now) ∙ ap with_on (sym c.in-Some.ensures.read))
-    (scope_exit local_names.local_list _ _ _ _ _ _ c.from_residual.ensures.1 c.in_err-locals.ensures.played)
+    row_at _ _ c.args.self.now c.from_residual-in_err-locals.result c.initials.new.self (with_row-on (trees c.args.args.now) ∙ ap with_on (sym (rw c.in-Some.is at c.in_ok-names.ensures).read))
+    (scope_exit local_names.local_list _ _ _ _ _ _ c.from_residual-in_err-locals.ensures.1 (initials_stop c.as_slice.ensures.value _ _ _ c.in_err-locals.ensures.played))
+
+pub with_row-replaced-requires : goal.with_row-replaced-requires
+with_row-replaced-requires g t c = record { symbols = subst local_names.AreSymbols (sym c.as_slice-2.ensures.value) (are_symbols _ c.in_ok-locals.locals.items c.in_ok-locals.ensures.played.1) }
+
+pub with_row-given-requires : goal.with_row-given-requires
+with_row-given-requires g t c =
+    let h = c.in_ok-locals.ensures.played in
+    let a = c.initials.new.self.store in
+    record { honest = c.replaced-made.ensures.honest a (later h.0 _ ((rw c.in-Some.is at c.in_ok-names.ensures).honest c.args.self.now.store c.requires.args).1) (subst (local_names.AreLocals a) (sym c.as_slice-2.ensures.value) h.1) }
 
 pub with_row-returns-clause-played : goal.with_row-returns-clause-played
 with_row-returns-clause-played g t c =
     let ls = locals_in c.in-Some.names.items in
     let b = plain c.in-Some.body.now in
     let vs = locals_in c.in_ok-locals.locals.items in
-    row_at _ _ c.args.self.now c.given.result c.given.new.self (with_row-on (trees c.args.args.now) ∙ ap with_on (sym c.in-Some.ensures.read))
-    (row_made _ _ _ c.initials.new.self _ _ (given_plays _ _ _ c.initials.new.self (with_plays ls vs b _ _ c.in_ok-locals.ensures.played.0)) (c.given.ensures.played _ c.replaced-made.ensures.made))
+    row_at _ _ c.args.self.now c.given.result c.given.new.self (with_row-on (trees c.args.args.now) ∙ ap with_on (sym (rw c.in-Some.is at c.in_ok-names.ensures).read))
+    (row_made _ _ _ c.initials.new.self _ _ (given_plays _ _ _ c.initials.new.self (with_plays ls vs b _ _ (initials_play c.as_slice.ensures.value c.in_ok-locals.ensures.played.0)))
+    (c.given.ensures.played _ (replaced_of c.as_slice-2.ensures.value (plain c.in-Some.body.now) c.replaced-made.result c.replaced-made.ensures.made)))
 
 -- ---- Block
 
 pub block_row-returns-in_default-clause-played : goal.block_row-returns-in_default-clause-played
-block_row-returns-in_default-clause-played g t c = row_stays _ _ (block_row-on (trees c.args.args.now) ∙ ap block_on (sym c.in_default.ensures.read))
+block_row-returns-in_default-clause-played g t c = row_stays _ _ (block_row-on (trees c.args.args.now) ∙ ap block_on (sym (rw c.in_default.is at c.in_ok-names.ensures).read))
 
 pub block_row-initials-requires : goal.block_row-initials-requires
-block_row-initials-requires g t c κs within = (search rules, (within, (c.requires.sound, subst (local_names.AreLocals c.args.self.now.store) (sym c.as_slice.ensures.value) (c.in-Some.ensures.honest c.args.self.now.store c.requires.args).0)))
+block_row-initials-requires g t c κs within = (search rules, (within, (c.requires.sound, subst (local_names.AreLocals c.args.self.now.store) (sym c.as_slice.ensures.value) ((rw c.in-Some.is at c.in_ok-names.ensures).honest c.args.self.now.store c.requires.args).0)))
 
 pub block_row-returns-in_err-locals-clause-played : goal.block_row-returns-in_err-locals-clause-played
 block_row-returns-in_err-locals-clause-played g t c =
-    row_at _ _ c.args.self.now c.from_residual.result c.initials.new.self (block_row-on (trees c.args.args.now) ∙ ap block_on (sym c.in-Some.ensures.read))
-    (scope_exit local_names.local_list _ _ _ _ _ _ c.from_residual.ensures.1 c.in_err-locals.ensures.played)
+    row_at _ _ c.args.self.now c.from_residual-in_err-locals.result c.initials.new.self (block_row-on (trees c.args.args.now) ∙ ap block_on (sym (rw c.in-Some.is at c.in_ok-names.ensures).read))
+    (scope_exit local_names.local_list _ _ _ _ _ _ c.from_residual-in_err-locals.ensures.1 (initials_stop c.as_slice.ensures.value _ _ _ c.in_err-locals.ensures.played))
+
+pub block_row-set_aside-requires : goal.block_row-set_aside-requires
+block_row-set_aside-requires g t c =
+    let h = c.in_ok-locals.ensures.played in
+    record { sound = h.0.sound c.requires.sound; locals = subst (local_names.AreLocals c.initials.new.self.store) (sym c.as_slice-2.ensures.value) h.1 }
+
+pub block_row-value_of-requires : goal.block_row-value_of-requires
+block_row-value_of-requires g t c κs within =
+    let h = c.in_ok-locals.ensures.played in
+    let a = c.in_ok-held.ensures.played in
+    (omega (arith, c.in_ok-locals.ensures.falls, c.in_ok-held.ensures.kept), (within, (a.sound (h.0.sound c.requires.sound), later a _ (later h.0 _ ((rw c.in-Some.is at c.in_ok-names.ensures).honest c.args.self.now.store c.requires.args).1))))
+
+pub block_row-give_all-requires : goal.block_row-give_all-requires
+block_row-give_all-requires g t c =
+    let h = c.in_ok-locals.ensures.played in
+    let a = c.in_ok-held.ensures in
+    let n = sym c.stops_by_memory.ensures ∙ c.if-stops_by_memory.false in
+    let v = c.value_of-value.ensures.played in
+    record { sound = inside_sound value _ _ _ _ n v (a.played.sound (h.0.sound c.requires.sound)); held = inside_held value _ _ _ _ c.in_ok-held.held.items n v a.held }
+
+pub block_row-returns-in-Err-clause-played : goal.block_row-returns-in-Err-clause-played
+block_row-returns-in-Err-clause-played g t c =
+    let k = c.args.self.now in
+    let ls = locals_in c.in-Some.names.items in
+    let vs = locals_in c.in_ok-locals.locals.items in
+    let inside = prog.value_of (plain c.in-Some.body.now) in
+    let b = c.give_all.ensures.played in
+    let m =
+    block_played honest_tree ls vs (map held_in c.in_ok-held.held.items) inside k c.initials.new.self c.set_aside.new.self c.value_of-value.new.self c.give_all.new.self c.value_of-value.result (initials_play c.as_slice.ensures.value c.in_ok-locals.ensures.played.0)
+    (aside_play c.as_slice-2.ensures.value c.in_ok-held.ensures.played) (λ x w. later b x w) (honest_played inside _ _ _ c.value_of-value.ensures.played) b in
+    row_at _ _ k (Err c.in-Err.stop) c.give_all.new.self (block_row-on (trees c.args.args.now) ∙ ap block_on (sym (rw c.in-Some.is at c.in_ok-names.ensures).read)) (block_stops (scoping.in_block ls inside) k c.give_all.new.self c.in-Err.stop c.value_of-value.result c.in-Err.is m)
+
+pub block_row-returns-in-Ok-clause-played : goal.block_row-returns-in-Ok-clause-played
+block_row-returns-in-Ok-clause-played g t c =
+    let k = c.args.self.now in
+    let ls = locals_in c.in-Some.names.items in
+    let vs = locals_in c.in_ok-locals.locals.items in
+    let inside = prog.value_of (plain c.in-Some.body.now) in
+    let b = c.give_all.ensures.played in
+    let m =
+    block_played honest_tree ls vs (map held_in c.in_ok-held.held.items) inside k c.initials.new.self c.set_aside.new.self c.value_of-value.new.self c.give_all.new.self c.value_of-value.result (initials_play c.as_slice.ensures.value c.in_ok-locals.ensures.played.0)
+    (aside_play c.as_slice-2.ensures.value c.in_ok-held.ensures.played) (λ x w. later b x w) (honest_played inside _ _ _ c.value_of-value.ensures.played) b in
+    row_at _ _ k (Ok (Some c.in-Ok.value)) c.give_all.new.self (block_row-on (trees c.args.args.now) ∙ ap block_on (sym (rw c.in-Some.is at c.in_ok-names.ensures).read))
+    (block_gives (scoping.in_block ls inside) k c.give_all.new.self c.in-Ok.value c.value_of-value.result c.in-Ok.is m c.weight-weight.ensures.fits)
+
+-- ---- the guard of a condition
+
+pub condition_result-returns-in_default-clause-played : goal.condition_result-returns-in_default-clause-played
+condition_result-returns-in_default-clause-played g t c =
+    let k = c.args.self.now in
+    (subst (λ z. Plays z k (Ok None) k false) (sym (condition_is (trees c.args.args.now) ∙ ap condition_on (sym c.in_default.ensures.value))) plays_done, tt)
+
+pub condition_result-value_of-requires : goal.condition_result-value_of-requires
+condition_result-value_of-requires g t c κs within = (search rules, (within, (c.requires.sound, (c.in-Some.ensures.honest c.args.self.now.store c.requires.args).1)))
+
+pub condition_result-returns-in_err-value-clause-played : goal.condition_result-returns-in_err-value-clause-played
+condition_result-returns-in_err-value-clause-played g t c =
+    let q = condition_is (trees c.args.args.now) ∙ ap condition_on (sym c.in-Some.ensures.value) in
+    subst (λ z. Played found_tree z c.args.self.now c.from_residual.result c.value_of.new.self) (sym q) (exit value found_tree _ _ _ _ _ _ c.from_residual.ensures.1 c.in_err-value.ensures.played)
+
+pub condition_result-returns-then-not-is_symbol-clause-played : goal.condition_result-returns-then-not-is_symbol-clause-played
+condition_result-returns-then-not-is_symbol-clause-played g t c =
+    let b = plain c.in-Some.body.now in
+    let v = plain c.in_ok-value.value in
+    let k1 = c.value_of.new.self in
+    let q = condition_is (trees c.args.args.now) ∙ ap condition_on (sym c.in-Some.ensures.value) in
+    (subst (λ z. Plays z c.args.self.now (Ok None) k1 false) (sym q) (plays_bind _ (condition_by b) c.in_ok-value.ensures.played.0 (condition_gives b v k1 false (sym c.is_symbol.ensures ∙ c.if-not-is_symbol.true))), tt)
+
+pub condition_result-returns-clause-played : goal.condition_result-returns-clause-played
+condition_result-returns-clause-played g t c =
+    let b = plain c.in-Some.body.now in
+    let v = plain c.in_ok-value.value in
+    let k1 = c.value_of.new.self in
+    let h = c.in_ok-value.ensures.played.0 in
+    let q = condition_is (trees c.args.args.now) ∙ ap condition_on (sym c.in-Some.ensures.value) in
+    let w = plays_bind _ (condition_by b) h (condition_gives b v k1 true (sym c.is_symbol.ensures ∙ c.if-not-is_symbol.false)) in
+    (
+      subst (λ z. Plays z c.args.self.now (Ok (Some (plain c.in_ok-copy.field-0))) k1 false) (sym q) (subst (λ (z : Stamped). Plays (prog.value_of (plain c.in-Some.condition.now) >>= condition_by b) c.args.self.now (Ok (Some (plain z))) k1 false) (sym c.in_ok-copy.ensures) w),
+      subst (Honest k1) (sym c.in_ok-copy.ensures) (later h _ (c.in-Some.ensures.honest c.args.self.now.store c.requires.args).0),
+    )
+
+-- ---- the guard of a Module
+
+pub module_guard-returns-in_default-clause-played : goal.module_guard-returns-in_default-clause-played
+module_guard-returns-in_default-clause-played g t c n l =
+    let k = c.args.self.now in
+    let e = plain c.args.e.now in
+    let q : scope_parts scopes.names (elements e) ≡ None = ap (scope_parts scopes.names) (sym c.elements.ensures.elements) ∙ sym (rw c.in_default.is at c.in_ok-names.ensures).read in
+    (subst (λ z. Plays (guards.module_guard n e z) k (Ok (Some (plain c.in_ok-copy.field-0))) k false) (sym q) (plays_done_is (ap (λ z. Some (plain z)) (sym c.in_ok-copy.ensures))), subst (Honest k) (sym c.in_ok-copy.ensures) c.requires.honest)
+
+pub module_guard-initials-requires : goal.module_guard-initials-requires
+module_guard-initials-requires g t c κs within =
+    let a = c.args.self.now.store in
+    (omega arith, (within, (c.requires.sound, subst (local_names.AreLocals a) (sym c.as_slice.ensures.value) ((rw c.in-Some.is at c.in_ok-names.ensures).honest a (c.elements.ensures.honest a c.requires.honest)).0)))
+
+pub module_guard-returns-in_err-locals-clause-played : goal.module_guard-returns-in_err-locals-clause-played
+module_guard-returns-in_err-locals-clause-played g t c n l =
+    let k = c.args.self.now in
+    let e = plain c.args.e.now in
+    let q : scope_parts scopes.names (elements e) ≡ Some (locals_in c.in-Some.names.items, plain c.in-Some.body.now) = ap (scope_parts scopes.names) (sym c.elements.ensures.elements) ∙ sym (rw c.in-Some.is at c.in_ok-names.ensures).read in
+    subst (λ z. Played found_tree (guards.module_guard n e z) k c.from_residual-in_err-locals.result c.initials.new.self) (sym q)
+    (err_played found_tree _ _ _ c.from_residual-in_err-locals.result _ c.from_residual-in_err-locals.ensures.1 (module_stops local_names.local_list _ _ e n k _ _ (initials_stop c.as_slice.ensures.value _ _ _ c.in_err-locals.ensures.played)))
+
+pub module_guard-renamed-requires : goal.module_guard-renamed-requires
+module_guard-renamed-requires g t c = record { symbols = subst local_names.AreSymbols (sym c.as_slice-2.ensures.value) (are_symbols _ c.in_ok-locals.locals.items c.in_ok-locals.ensures.played.1) }
+
+pub module_guard-returns-in_err-inner-clause-played : goal.module_guard-returns-in_err-inner-clause-played
+module_guard-returns-in_err-inner-clause-played g t c n l =
+    let k = c.args.self.now in
+    let e = plain c.args.e.now in
+    let ls = locals_in c.in-Some.names.items in
+    let b = plain c.in-Some.body.now in
+    let vs = locals_in c.in_ok-locals.locals.items in
+    let q : scope_parts scopes.names (elements e) ≡ Some (ls, b) = ap (scope_parts scopes.names) (sym c.elements.ensures.elements) ∙ sym (rw c.in-Some.is at c.in_ok-names.ensures).read in
+    let m = renamed_of c.as_slice-2.ensures.value (plain c.in-Some.body.now) c.draw_number-number.result c.renamed-made.result c.renamed-made.ensures.made in
+    subst (λ z. Played found_tree (guards.module_guard n e z) k c.from_residual-in_err-inner.result c.fitted.new.self) (sym q)
+    (err_played found_tree _ _ _ c.from_residual-in_err-inner.result _ c.from_residual-in_err-inner.ensures.1
+    (module_sized ls vs b k _ (initials_play c.as_slice.ensures.value c.in_ok-locals.ensures.played.0) c.draw_number-number.result _ c.draw_number-number.ensures.played _ _ (c.in_err-inner.ensures.played _ m) n e))
+
+pub module_guard-set_locals-requires : goal.module_guard-set_locals-requires
+module_guard-set_locals-requires g t c =
+    let h = c.in_ok-locals.ensures.played in
+    let d = c.draw_number-number.ensures.played in
+    let f = (c.in_ok-inner.ensures.played _ (renamed_of c.as_slice-2.ensures.value (plain c.in-Some.body.now) c.draw_number-number.result c.renamed-made.result c.renamed-made.ensures.made)).0 in
+    record { sound = f.sound (d.sound (h.0.sound c.requires.sound)); locals = subst (local_names.AreLocals c.fitted.new.self.store) (sym c.as_slice-3.ensures.value) (locals_later f c.in_ok-locals.locals.items (locals_later d c.in_ok-locals.locals.items h.1)) }
+
+pub module_guard-guard-requires : goal.module_guard-guard-requires
+module_guard-guard-requires g t c κs within =
+    let k = c.args.self.now in
+    let e = plain c.args.e.now in
+    let ls = locals_in c.in-Some.names.items in
+    let b = plain c.in-Some.body.now in
+    let vs = locals_in c.in_ok-locals.locals.items in
+    let n = c.draw_number-number.result in
+    let q : scope_parts scopes.names (elements e) ≡ Some (ls, b) = ap (scope_parts scopes.names) (sym c.elements.ensures.elements) ∙ sym (rw c.in-Some.is at c.in_ok-names.ensures).read in
+    let h = c.in_ok-locals.ensures.played in
+    let d = c.draw_number-number.ensures.played in
+    let f = c.in_ok-inner.ensures.played _ (renamed_of c.as_slice-2.ensures.value (plain c.in-Some.body.now) c.draw_number-number.result c.renamed-made.result c.renamed-made.ensures.made) in
+    let s = c.in_ok-set_locals.ensures.played in
+    let a = c.args.self.now.store in
+    let x : Honest k c.in_ok-inner.inner = subst (λ z. IfOk z (HonestIn a)) c.in_ok-inner.ensures.made (c.renamed-made.ensures.honest a ((rw c.in-Some.is at c.in_ok-names.ensures).honest a (c.elements.ensures.honest a c.requires.honest)).1) in
+    let i = ap depth f.1 in
+    let j = renamed_shallow b (scoping.names_of vs) n in
+    let o = body_depth scopes.names e ls b q in
+    (omega (arith, i, j, o, c.in_ok-locals.ensures.falls, c.draw_number-number.ensures.kept, c.in_ok-inner.ensures.kept, c.in_ok-set_locals.ensures.kept),
+     (within, (s.sound (f.0.sound (d.sound (h.0.sound c.requires.sound))), later s _ (later f.0 _ (later d _ (later h.0 _ x))))))
+
+pub module_guard-returns-clause-played : goal.module_guard-returns-clause-played
+module_guard-returns-clause-played g t c n l =
+    let k = c.args.self.now in
+    let e = plain c.args.e.now in
+    let ls = locals_in c.in-Some.names.items in
+    let b = plain c.in-Some.body.now in
+    let vs = locals_in c.in_ok-locals.locals.items in
+    let m = c.draw_number-number.result in
+    let q : scope_parts scopes.names (elements e) ≡ Some (ls, b) = ap (scope_parts scopes.names) (sym c.elements.ensures.elements) ∙ sym (rw c.in-Some.is at c.in_ok-names.ensures).read in
+    let f = c.in_ok-inner.ensures.played _ (renamed_of c.as_slice-2.ensures.value (plain c.in-Some.body.now) c.draw_number-number.result c.renamed-made.result c.renamed-made.ensures.made) in
+    let i = ap depth f.1 in
+    let j = renamed_shallow b (scoping.names_of vs) m in
+    let o = body_depth scopes.names e ls b q in
+    let w = c.guard.ensures.played n (omega (arith, l, i, j, o, c.in_ok-locals.ensures.falls, c.draw_number-number.ensures.kept, c.in_ok-inner.ensures.kept, c.in_ok-set_locals.ensures.kept)) in
+    subst (λ z. Played found_tree (guards.module_guard n e z) k c.guard.result c.guard.new.self) (sym q)
+    (module_guarded ls vs b k _ (initials_play c.as_slice.ensures.value c.in_ok-locals.ensures.played.0) m _ c.draw_number-number.ensures.played c.fitted.new.self c.set_locals.new.self c.guard.new.self n e c.guard.result f.0
+    (locals_play c.as_slice-3.ensures.value c.draw_number-number.result c.in_ok-set_locals.ensures.played) (subst (λ z. Played found_tree (guard_within n z) c.set_locals.new.self c.guard.result c.guard.new.self) f.1 w))
+
+-- ---- the guard of a With
+
+pub with_guard-returns-in_default-clause-played : goal.with_guard-returns-in_default-clause-played
+with_guard-returns-in_default-clause-played g t c n l =
+    let k = c.args.self.now in
+    let e = plain c.args.e.now in
+    let q : scope_parts scopes.values (elements e) ≡ None = ap (scope_parts scopes.values) (sym c.elements.ensures.elements) ∙ sym (rw c.in_default.is at c.in_ok-names.ensures).read in
+    (subst (λ z. Plays (guards.with_guard n e z) k (Ok (Some (plain c.in_ok-copy.field-0))) k false) (sym q) (plays_done_is (ap (λ z. Some (plain z)) (sym c.in_ok-copy.ensures))), subst (Honest k) (sym c.in_ok-copy.ensures) c.requires.honest)
+
+pub with_guard-initials-requires : goal.with_guard-initials-requires
+with_guard-initials-requires g t c κs within =
+    let a = c.args.self.now.store in
+    (omega arith, (within, (c.requires.sound, subst (local_names.AreLocals a) (sym c.as_slice.ensures.value) ((rw c.in-Some.is at c.in_ok-names.ensures).honest a (c.elements.ensures.honest a c.requires.honest)).0)))
+
+pub with_guard-returns-in_err-locals-clause-played : goal.with_guard-returns-in_err-locals-clause-played
+with_guard-returns-in_err-locals-clause-played g t c n l =
+    let k = c.args.self.now in
+    let e = plain c.args.e.now in
+    let q : scope_parts scopes.values (elements e) ≡ Some (locals_in c.in-Some.names.items, plain c.in-Some.body.now) = ap (scope_parts scopes.values) (sym c.elements.ensures.elements) ∙ sym (rw c.in-Some.is at c.in_ok-names.ensures).read in
+    subst (λ z. Played found_tree (guards.with_guard n e z) k c.from_residual-in_err-locals.result c.initials.new.self) (sym q)
+    (err_played found_tree _ _ _ c.from_residual-in_err-locals.result _ c.from_residual-in_err-locals.ensures.1 (with_stops local_names.local_list _ _ e n k _ _ (initials_stop c.as_slice.ensures.value _ _ _ c.in_err-locals.ensures.played)))
+
+pub with_guard-replaced-requires : goal.with_guard-replaced-requires
+with_guard-replaced-requires g t c = record { symbols = subst local_names.AreSymbols (sym c.as_slice-2.ensures.value) (are_symbols _ c.in_ok-locals.locals.items c.in_ok-locals.ensures.played.1) }
+
+pub with_guard-returns-in_err-inner-clause-played : goal.with_guard-returns-in_err-inner-clause-played
+with_guard-returns-in_err-inner-clause-played g t c n l =
+    let k = c.args.self.now in
+    let e = plain c.args.e.now in
+    let ls = locals_in c.in-Some.names.items in
+    let b = plain c.in-Some.body.now in
+    let vs = locals_in c.in_ok-locals.locals.items in
+    let q : scope_parts scopes.values (elements e) ≡ Some (ls, b) = ap (scope_parts scopes.values) (sym c.elements.ensures.elements) ∙ sym (rw c.in-Some.is at c.in_ok-names.ensures).read in
+    let m = replaced_of c.as_slice-2.ensures.value (plain c.in-Some.body.now) c.replaced-made.result c.replaced-made.ensures.made in
+    subst (λ z. Played found_tree (guards.with_guard n e z) k c.from_residual-in_err-inner.result c.fitted.new.self) (sym q)
+    (err_played found_tree _ _ _ c.from_residual-in_err-inner.result _ c.from_residual-in_err-inner.ensures.1 (with_sized ls vs b k _ (initials_play c.as_slice.ensures.value c.in_ok-locals.ensures.played.0) _ _ (c.in_err-inner.ensures.played _ m) n e))
+
+pub with_guard-guard-requires : goal.with_guard-guard-requires
+with_guard-guard-requires g t c κs within =
+    let k = c.args.self.now in
+    let e = plain c.args.e.now in
+    let ls = locals_in c.in-Some.names.items in
+    let b = plain c.in-Some.body.now in
+    let us = c.in_ok-locals.locals.items in
+    let q : scope_parts scopes.values (elements e) ≡ Some (ls, b) = ap (scope_parts scopes.values) (sym c.elements.ensures.elements) ∙ sym (rw c.in-Some.is at c.in_ok-names.ensures).read in
+    let h = c.in_ok-locals.ensures.played in
+    let f = c.in_ok-inner.ensures.played _ (replaced_of c.as_slice-2.ensures.value (plain c.in-Some.body.now) c.replaced-made.result c.replaced-made.ensures.made) in
+    let a = c.initials.new.self.store in
+    let y = later h.0 _ ((rw c.in-Some.is at c.in_ok-names.ensures).honest c.args.self.now.store (c.elements.ensures.honest c.args.self.now.store c.requires.honest)).1 in
+    let x : Honest c.initials.new.self c.in_ok-inner.inner = subst (λ z. IfOk z (HonestIn a)) c.in_ok-inner.ensures.made (c.replaced-made.ensures.honest a y (subst (local_names.AreLocals a) (sym c.as_slice-2.ensures.value) h.1)) in
+    let i = ap depth f.1 in
+    let o = body_depth scopes.values e ls b q in
+    let less = with_falls k.steps c.fitted.new.self.steps (depth (plain c.in_ok-inner.inner)) (depth e) (omega (arith, c.in_ok-locals.ensures.falls, c.in_ok-inner.ensures.kept)) c.depth-depth.ensures.fits.shallow
+    (λ z. let j = replaced_shallow b us (c.in_ok-locals.ensures.shallow (omega (arith, z, c.in_ok-inner.ensures.kept))) in omega (arith, i, j, o)) in
+    (omega (arith, less), (within, (f.0.sound (h.0.sound c.requires.sound), later f.0 _ x)))
+
+pub with_guard-returns-clause-played : goal.with_guard-returns-clause-played
+with_guard-returns-clause-played g t c n l =
+    let k = c.args.self.now in
+    let e = plain c.args.e.now in
+    let ls = locals_in c.in-Some.names.items in
+    let b = plain c.in-Some.body.now in
+    let us = c.in_ok-locals.locals.items in
+    let q : scope_parts scopes.values (elements e) ≡ Some (ls, b) = ap (scope_parts scopes.values) (sym c.elements.ensures.elements) ∙ sym (rw c.in-Some.is at c.in_ok-names.ensures).read in
+    let f = c.in_ok-inner.ensures.played _ (replaced_of c.as_slice-2.ensures.value (plain c.in-Some.body.now) c.replaced-made.result c.replaced-made.ensures.made) in
+    let i = ap depth f.1 in
+    let o = body_depth scopes.values e ls b q in
+    let below = with_below k.steps c.fitted.new.self.steps (depth (plain c.in_ok-inner.inner)) (depth e) n (omega (arith, c.in_ok-locals.ensures.falls, c.in_ok-inner.ensures.kept)) c.depth-depth.ensures.fits.shallow
+    (λ z. let j = replaced_shallow b us (c.in_ok-locals.ensures.shallow (omega (arith, z, c.in_ok-inner.ensures.kept))) in omega (arith, i, j, o)) l in
+    let w = c.guard.ensures.played n below in
+    subst (λ z. Played found_tree (guards.with_guard n e z) k c.guard.result c.guard.new.self) (sym q)
+    (with_guarded ls (locals_in us) b k _ (initials_play c.as_slice.ensures.value c.in_ok-locals.ensures.played.0) c.fitted.new.self c.guard.new.self n e c.guard.result f.0
+    (subst (λ z. Played found_tree (guard_within n z) c.fitted.new.self c.guard.result c.guard.new.self) f.1 w))
+
+-- ---- the guard of a Block
+
+pub block_guard-returns-in_default-clause-played : goal.block_guard-returns-in_default-clause-played
+block_guard-returns-in_default-clause-played g t c n l =
+    let k = c.args.self.now in
+    let e = plain c.args.e.now in
+    let q : scope_parts scopes.names (elements e) ≡ None = ap (scope_parts scopes.names) (sym c.elements.ensures.elements) ∙ sym (rw c.in_default.is at c.in_ok-names.ensures).read in
+    (subst (λ z. Plays (guards.block_guard n e z) k (Ok (Some (plain c.in_ok-copy.field-0))) k false) (sym q) (plays_done_is (ap (λ z. Some (plain z)) (sym c.in_ok-copy.ensures))), subst (Honest k) (sym c.in_ok-copy.ensures) c.requires.honest)
+
+pub block_guard-initials-requires : goal.block_guard-initials-requires
+block_guard-initials-requires g t c κs within =
+    let a = c.args.self.now.store in
+    (omega arith, (within, (c.requires.sound, subst (local_names.AreLocals a) (sym c.as_slice.ensures.value) ((rw c.in-Some.is at c.in_ok-names.ensures).honest a (c.elements.ensures.honest a c.requires.honest)).0)))
+
+pub block_guard-returns-in_err-locals-clause-played : goal.block_guard-returns-in_err-locals-clause-played
+block_guard-returns-in_err-locals-clause-played g t c n l =
+    let k = c.args.self.now in
+    let e = plain c.args.e.now in
+    let ls = locals_in c.in-Some.names.items in
+    let b = plain c.in-Some.body.now in
+    let q : scope_parts scopes.names (elements e) ≡ Some (ls, b) = ap (scope_parts scopes.names) (sym c.elements.ensures.elements) ∙ sym (rw c.in-Some.is at c.in_ok-names.ensures).read in
+    subst (λ z. Played found_tree (guards.block_guard n e z) k c.from_residual-in_err-locals.result c.initials.new.self) (sym q)
+    (err_played found_tree _ _ _ c.from_residual-in_err-locals.result _ c.from_residual-in_err-locals.ensures.1 (block_exit local_names.local_list found_tree ls (guarded_value n b) k _ _ (initials_stop c.as_slice.ensures.value _ _ _ c.in_err-locals.ensures.played)))
+
+pub block_guard-set_aside-requires : goal.block_guard-set_aside-requires
+block_guard-set_aside-requires g t c =
+    let h = c.in_ok-locals.ensures.played in
+    record { sound = h.0.sound c.requires.sound; locals = subst (local_names.AreLocals c.initials.new.self.store) (sym c.as_slice-2.ensures.value) h.1 }
+
+pub block_guard-guarded_value-requires : goal.block_guard-guarded_value-requires
+block_guard-guarded_value-requires g t c κs within =
+    let a = c.args.self.now.store in
+    let e = plain c.args.e.now in
+    let q : scope_parts scopes.names (elements e) ≡ Some (locals_in c.in-Some.names.items, plain c.in-Some.body.now) = ap (scope_parts scopes.names) (sym c.elements.ensures.elements) ∙ sym (rw c.in-Some.is at c.in_ok-names.ensures).read in
+    let h = c.in_ok-locals.ensures.played in
+    let s = c.in_ok-held.ensures.played in
+    let o = body_depth scopes.names e _ _ q in
+    (omega (arith, o, c.in_ok-locals.ensures.falls, c.in_ok-held.ensures.kept), (within, (s.sound (h.0.sound c.requires.sound), later s _ (later h.0 _ ((rw c.in-Some.is at c.in_ok-names.ensures).honest a (c.elements.ensures.honest a c.requires.honest)).1))))
+
+pub block_guard-give_all-requires : goal.block_guard-give_all-requires
+block_guard-give_all-requires g t c =
+    let k = c.args.self.now in
+    let e = plain c.args.e.now in
+    let q : scope_parts scopes.names (elements e) ≡ Some (locals_in c.in-Some.names.items, plain c.in-Some.body.now) = ap (scope_parts scopes.names) (sym c.elements.ensures.elements) ∙ sym (rw c.in-Some.is at c.in_ok-names.ensures).read in
+    let o = body_depth scopes.names e _ _ q in
+    let h = c.in_ok-locals.ensures.played in
+    let a = c.in_ok-held.ensures in
+    let n = sym c.stops_by_memory.ensures ∙ c.if-stops_by_memory.false in
+    let v = c.guarded_value-found.ensures.played (1001 * k.steps + depth e) (omega (arith, o, c.in_ok-locals.ensures.falls, c.in_ok-held.ensures.kept)) in
+    record { sound = inside_sound found_tree _ _ _ _ n v (a.played.sound (h.0.sound c.requires.sound)); held = inside_held found_tree _ _ _ _ c.in_ok-held.held.items n v a.held }
+
+pub block_guard-returns-clause-played : goal.block_guard-returns-clause-played
+block_guard-returns-clause-played g t c n l =
+    let k = c.args.self.now in
+    let e = plain c.args.e.now in
+    let ls = locals_in c.in-Some.names.items in
+    let vs = locals_in c.in_ok-locals.locals.items in
+    let b = plain c.in-Some.body.now in
+    let q : scope_parts scopes.names (elements e) ≡ Some (ls, b) = ap (scope_parts scopes.names) (sym c.elements.ensures.elements) ∙ sym (rw c.in-Some.is at c.in_ok-names.ensures).read in
+    let o = body_depth scopes.names e ls b q in
+    let v = c.guarded_value-found.ensures.played n (omega (arith, l, o, c.in_ok-locals.ensures.falls, c.in_ok-held.ensures.kept)) in
+    let back = c.give_all.ensures.played in
+    subst (λ z. Played found_tree (guards.block_guard n e z) k c.guarded_value-found.result c.give_all.new.self) (sym q)
+    (block_played found_tree ls vs (map held_in c.in_ok-held.held.items) (guarded_value n b) k c.initials.new.self c.set_aside.new.self c.guarded_value-found.new.self c.give_all.new.self c.guarded_value-found.result
+    (initials_play c.as_slice.ensures.value c.in_ok-locals.ensures.played.0) (aside_play c.as_slice-2.ensures.value c.in_ok-held.ensures.played) (λ x w. option_later back x w) v back)
+
+-- ---- the value of what a guard gives
+
+pub guarded_value-returns-in_err-found-clause-played : goal.guarded_value-returns-in_err-found-clause-played
+guarded_value-returns-in_err-found-clause-played g t c n l = exit found_tree found_tree _ _ _ _ _ _ c.from_residual.ensures.1 (c.in_err-found.ensures.played n l)
+
+pub guarded_value-returns-in_default-clause-played : goal.guarded_value-returns-in_default-clause-played
+guarded_value-returns-in_default-clause-played g t c n l =
+    let h = c.in_ok-found.ensures.played n l in
+    (plays_bind (guard_within n (plain c.args.e.now)) (λ r. value_inside r) (subst (λ o. Plays (guard_within n (plain c.args.e.now)) c.args.self.now (Ok (option_map plain o)) c.guard.new.self false) c.in_default.is h.0) plays_done, tt)
+
+pub guarded_value-value_of-requires : goal.guarded_value-value_of-requires
+guarded_value-value_of-requires g t c κs within =
+    let h = c.in_ok-found.ensures.played (1001 * c.args.self.now.steps + depth (plain c.args.e.now) + 1) (omega arith) in
+    (omega (arith, c.in_ok-found.ensures.falls), (within, (h.0.sound c.requires.sound, subst (HonestMaybe c.guard.new.self) c.in-Some.is h.1)))
+
+pub guarded_value-returns-in_err-value-clause-played : goal.guarded_value-returns-in_err-value-clause-played
+guarded_value-returns-in_err-value-clause-played g t c n l =
+    let e = plain c.args.e.now in
+    let h = c.in_ok-found.ensures.played n l in
+    played_bind found_tree (guard_within n e) (λ r. value_inside r) c.args.self.now c.guard.new.self (Some (plain c.in-Some.result)) _ _ (subst (λ o. Plays (guard_within n e) c.args.self.now (Ok (option_map plain o)) c.guard.new.self false) c.in-Some.is h.0)
+    (exit value found_tree _ _ _ _ _ _ c.from_residual-in_err-value.ensures.1 c.in_err-value.ensures.played)
+
+pub guarded_value-returns-clause-played : goal.guarded_value-returns-clause-played
+guarded_value-returns-clause-played g t c n l =
+    let e = plain c.args.e.now in
+    let h = c.in_ok-found.ensures.played n l in
+    let v = c.in_ok-value.ensures.played in
+    (
+      plays_bind (guard_within n e) (λ r. value_inside r) (subst (λ o. Plays (guard_within n e) c.args.self.now (Ok (option_map plain o)) c.guard.new.self false) c.in-Some.is h.0) (plays_bind _ (λ z. done (Some z)) v.0 plays_done),
+      v.1.0,
+    )
 
 -- ---- guards
 
@@ -2304,6 +2668,16 @@ catch_row-returns-then-args-eq1-clause-played g t c =
     let es : c.args.args.now ≡ e ∷ [] = one_item c.args.args.now e (omega (arith, c.if-args-eq1.true)) c.index-args-0.is in
     catch_one k k1 c.args.args.now e x c.caught.result es (subst (λ (z : Stamped). Ended (plain z) k (Ok x) k1) c.in_ok-copy.ensures c.in_ok-end.ensures.played) (c.caught.ensures k1)
 
+pub catch_row-returns-then-args-eq2-clause-played : goal.catch_row-returns-then-args-eq2-clause-played
+catch_row-returns-then-args-eq2-clause-played g t c =
+    let k = c.args.self.now in
+    let es = c.args.args.now in
+    let e = c.index-args-0-then-args-eq2.result in
+    let p = c.index-args-1.result in
+    let x = c.in_ok-end-then-args-eq2.end in
+    let q : es ≡ e ∷ p ∷ [] = two_items es e p (omega (arith, c.if-args-eq2.true)) c.index-args-0-then-args-eq2.is c.index-args-1.is in
+    catch_two k c.evaluate-then-args-eq2.new.self es e p x c.catch_tagged.result c.catch_tagged.new.self q (subst (λ (z : Stamped). Ended (plain z) k (Ok x) c.evaluate-then-args-eq2.new.self) c.in_ok-copy-then-args-eq2.ensures c.in_ok-end-then-args-eq2.ensures.played) (λ y. c.catch_tagged.ensures.played)
+
 pub check_abort_row-returns-clause-played : goal.check_abort_row-returns-clause-played
 check_abort_row-returns-clause-played g t c =
     let k = c.args.self.now in
@@ -2337,7 +2711,7 @@ catch_thrown-returns-in_err-found-clause-played g t c =
 pub catch_thrown-returns-then-found-clause-played : goal.catch_thrown-returns-then-found-clause-played
 catch_thrown-returns-then-found-clause-played g t c =
     let w = c.in_ok-found.ensures.played (2 ^ 64) c.ranges.self.steps in
-    thrown_caught (plain c.args.pattern.now) c.args.v c.args.tag c.args.self.now c.matches.new.self c.in_ok-found.found w.0 c.if-found.true c.weight-_weight.ensures.fits (later w.0 _ c.requires.value)
+    thrown_caught (plain c.args.pattern.now) c.args.v c.args.tag c.args.self.now c.matches.new.self c.in_ok-found.found w.0 c.if-found.true c.weight-weight.ensures.fits (later w.0 _ c.requires.value)
 
 pub catch_thrown-returns-clause-played : goal.catch_thrown-returns-clause-played
 catch_thrown-returns-clause-played g t c =

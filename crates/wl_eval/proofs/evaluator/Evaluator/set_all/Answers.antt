@@ -10,7 +10,7 @@ set_given-requires c =
     let ls = c.args.locals.now in
     let l = c.loop-i in
     let x = c.index-locals-i.result in
-    (l.invariant.sound, (local_at _ ls l.i x c.loop-i-test.true c.index-locals-i.is l.invariant.locals, free_at _ ls l.i x c.loop-i-test.true c.index-locals-i.is l.invariant.free))
+    record { sound = l.invariant.sound; local = local_at _ ls l.i x c.loop-i-test.true c.index-locals-i.is l.invariant.locals; free = free_at _ ls l.i x c.loop-i-test.true c.index-locals-i.is l.invariant.free }
 
 pub loop-i-preserved : goal.loop-i-preserved
 loop-i-preserved c =

@@ -6,7 +6,7 @@ use Rattle.wl_eval.proofs.ScopingParts.{locals_later, local_at, set_locals_step,
 use Rattle.wl_eval.proofs.evaluator.Evaluator.set_locals.Goals as goal
 
 pub set_local-requires : goal.set_local-requires
-set_local-requires g c = (c.loop-i.invariant.sound, local_at _ c.args.locals.now c.loop-i.i c.index-locals-i.result c.loop-i-test.true c.index-locals-i.is c.loop-i.invariant.locals)
+set_local-requires g c = record { sound = c.loop-i.invariant.sound; local = local_at _ c.args.locals.now c.loop-i.i c.index-locals-i.result c.loop-i-test.true c.index-locals-i.is c.loop-i.invariant.locals }
 
 pub loop-i-preserved : goal.loop-i-preserved
 loop-i-preserved g c =

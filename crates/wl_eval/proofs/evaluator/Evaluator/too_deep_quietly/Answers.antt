@@ -18,7 +18,7 @@ unquiet-requires g c =
     let k = c.args.self.now in
     let e : c.issue.new.self ≡ issued (definitions k.store) recursion_limit (codes "reclim") (natural k.recursion ∷ []) (with_quiets (k.desk.quiets + 1) k.desk) =
     c.in_ok-issue.ensures.ok
-    ∙ ap₂ (λ us (d : Desk). issued (definitions k.store) recursion_limit (codes "reclim") us d) (ap (map plain) c.from_ref.ensures ∙ ap (λ t. t ∷ []) c.in_ok-limit.ensures) c.quiet.ensures in
+    ∙ ap₂ (λ us (d : Desk). issued (definitions k.store) recursion_limit (codes "reclim") us d) (ap (map plain) c.from_ref.ensures.value ∙ ap (λ t. t ∷ []) c.in_ok-limit.ensures) c.quiet.ensures in
     omega (arith, told_quiets k c.issue.new.self e)
 
 pub returns-clause-played : goal.returns-clause-played
@@ -26,5 +26,5 @@ returns-clause-played g c = λ x h.
     let k = c.args.self.now in
     let e : c.issue.new.self ≡ issued (definitions k.store) recursion_limit (codes "reclim") (natural k.recursion ∷ []) (with_quiets (k.desk.quiets + 1) k.desk) =
     c.in_ok-issue.ensures.ok
-    ∙ ap₂ (λ us (d : Desk). issued (definitions k.store) recursion_limit (codes "reclim") us d) (ap (map plain) c.from_ref.ensures ∙ ap (λ t. t ∷ []) c.in_ok-limit.ensures) c.quiet.ensures in
+    ∙ ap₂ (λ us (d : Desk). issued (definitions k.store) recursion_limit (codes "reclim") us d) (ap (map plain) c.from_ref.ensures.value ∙ ap (λ t. t ∷ []) c.in_ok-limit.ensures) c.quiet.ensures in
     subst (λ (d : Desk). Plays (quiet_end (plain x)) k (Ok Aborted) (record k { desk = d; log = None }) false) (sym c.unquiet.ensures) (deep_quietly k c.issue.new.self e c.requires.sound c.requires.deep x h)
