@@ -22,7 +22,7 @@ use Rattle.wl_eval.proofs.Playing.{plays_bind, plays_done}
 use Rattle.wl_eval.proofs.Rows.{played_bind}
 use Rattle.wl_eval.proofs.Tables.{both_true}
 
-literals_at : (xs : List Stamped) (i : ℕ) (x : Stamped) → i < length xs → x ≡ get_or xs i x → literals (plains (from_list (drop i xs))) ≡ (literal (plain x) && literals (plains (from_list (drop (i + 1) xs))))
+pub literals_at : (xs : List Stamped) (i : ℕ) (x : Stamped) → i < length xs → x ≡ get_or xs i x → literals (plains (from_list (drop i xs))) ≡ (literal (plain x) && literals (plains (from_list (drop (i + 1) xs))))
 literals_at xs i x l e = ap (λ ys. literals (plains (from_list ys))) (drop_item xs i x l e)
 
 -- one that is no literal, and one more that is
@@ -35,7 +35,7 @@ one_literal xs i x l e h = literals_at xs i x l e ∙ ap (λ b. b && literals (p
 pub all_literal : (xs : List Stamped) (i : ℕ) → length xs ≤ i → literals (plains (from_list (drop i xs))) ≡ true
 all_literal xs i h = ap (λ ys. literals (plains (from_list ys))) (all_dropped xs i h)
 
-free_at : (fs : List Flags) (i : ℕ) (f : Flags) → i < length fs → f ≡ get_or fs i f → list_all is_free (drop i fs) ≡ (is_free f && list_all is_free (drop (i + 1) fs))
+pub free_at : (fs : List Flags) (i : ℕ) (f : Flags) → i < length fs → f ≡ get_or fs i f → list_all is_free (drop i fs) ≡ (is_free f && list_all is_free (drop (i + 1) fs))
 free_at fs i f l e = ap (list_all is_free) (drop_item fs i f l e)
 
 pub not_free : (fs : List Flags) (i : ℕ) (f : Flags) → i < length fs → f ≡ get_or fs i f → is_free f ≡ false → list_all is_free (drop i fs) ≡ false
@@ -45,7 +45,7 @@ pub one_free : (fs : List Flags) (i : ℕ) (f : Flags) → i < length fs → f �
 one_free fs i f l e h = free_at fs i f l e ∙ ap (λ b. b && list_all is_free (drop (i + 1) fs)) h
 
 -- the flags of the heads, one after the other
-free_named : (f : Name → Flags) (xs : List Name) → list_all is_free (map f xs) ≡ all_free f xs
+pub free_named : (f : Name → Flags) (xs : List Name) → list_all is_free (map f xs) ≡ all_free f xs
 free_named f [] = refl
 free_named f (x ∷ xs) = ap (λ b. is_free (f x) && b) (free_named f xs)
 
@@ -55,12 +55,12 @@ pub record Missed (f : Name → Flags) (p t : Tree) (fs : List Flags) : Type 0 w
   pub flags : fs ≡ map f (heads p)
   pub other : same p t ≡ false
 
-missed : (f : Name → Flags) (p t : Tree) (fs : List Flags) → Missed f p t fs → Trials (pattern f p) t ≡ Fail ∷ []
+pub missed : (f : Name → Flags) (p t : Tree) (fs : List Flags) → Missed f p t fs → Trials (pattern f p) t ≡ Fail ∷ []
 missed f p t fs m =
     let b = both_true (list_all is_free fs) (literal p) m.itself in
     one_leaf f p t b.1 (sym (free_named f (heads p)) ∙ ap (list_all is_free) (sym m.flags) ∙ b.0) ∙ ap (λ z. leaves_if z (Found [] ∷ [])) m.other
 
-walk_missed : (b : Tree) → walk (filling b) (Fail ∷ []) ≡ (tick >>= λ _. done None)
+pub walk_missed : (b : Tree) → walk (filling b) (Fail ∷ []) ≡ (tick >>= λ _. done None)
 unfolding walk
 walk_missed b = refl
 
