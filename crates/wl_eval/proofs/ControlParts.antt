@@ -20,6 +20,8 @@ use Rattle.wl_expr.specs.Passed.{IsFrom}
 use Rattle.wl_expr.specs.Stamped.{Stamped, plain}
 use Rattle.wl_expr.specs.Tree.{Tree}
 use Rattle.wl_expr.specs.Words.{Name, fits}
+use Rattle.wl_expr.specs.declared.fault.ExprFault.{ExprFault}
+use Rattle.wl_expr.specs.declared.fault.ExprFault.TheVariants as fault
 use Rattle.wl_eval.specs.State as spec
 use Rattle.wl_eval.specs.State.{State, End}
 use Rattle.wl_eval.specs.Prog as prog
@@ -32,7 +34,7 @@ use Rattle.wl_eval.specs.Honest.{Grows}
 use Rattle.wl_eval.specs.Local.{is_budget}
 use Rattle.wl_eval.specs.Parts.{sized_row}
 use Rattle.wl_eval.specs.Played as seen
-use Rattle.wl_eval.specs.Played.{Seen, Plays, Leads, Played, Ended, Honest, AllHonest, HonestMaybe, Sound, TooLarge, found_tree, itself}
+use Rattle.wl_eval.specs.Played.{Seen, Plays, Leads, Played, Ended, Honest, AllHonest, HonestMaybe, Sound, TooLarge, FaultStops, found_tree, itself}
 use Rattle.wl_eval.specs.Replies.{told_by, HonestReply, ReplyIsFrom, HonestAsk, Holds, IsBounded, IsCaught, Proceeds, caught_of, caught_reply, is_memory, stops_by_memory, set_aside, AreTaken, Ready, IsPosed, Finishes, Goes, Comes, IsRefused}
 use Rattle.wl_eval.specs.declared.ends.End as ends
 use Rattle.wl_eval.specs.declared.ends.End.TheVariants as end
@@ -469,3 +471,9 @@ set_named x y t n v k k1 e h = subst (λ z. Plays (set_iterator z v (set_aside z
 -- what is set aside after it
 pub ready_set : (x : Option Name) (y : Name) (n : Option Taken) (k k1 : Evaluator) {R : Type 0} {p : Prog R} {r : Result R End} {o : Bool} → x ≡ Some y → Sound k → Plays p k r k1 o → AreTaken k1 (Some y) n → Ready x k k1 n
 ready_set x y n k k1 e s h w = record { sound = h.sound s; taken = subst (λ z. AreTaken k1 z n) (sym e) w; grows = h.grows }
+
+-- ---- a refusal by a row
+
+pub refused_by : (a : Asks) (f : ExprFault) (k k1 : Evaluator) (d e : Stop) → (f ≡ fault.Large → IsTooLarge a) → FaultStops f k d k1 → d ≡ e → IsRefused a k e k1
+refused_by a fault.Memory k k1 d e h s q n = absurd (true≢false (sym (ap is_memory (sym q ∙ s)) ∙ n))
+refused_by a fault.Large k k1 d e h s q n = (h refl, subst (λ z. TooLarge k z k1) q s)

@@ -1,5 +1,5 @@
 -- Left sides without a pattern: what the loops over elements and flags have still to see, and a trial of one that isn't the subject.
-use Rattle.std.proofs.Common.{◌≡◌, ◌<◌, ◌≤◌, ◌+◌, ℕ, Bool, true, false, ◌&&◌, List, [], ◌∷◌, length, map, drop, get_or, Option, None, Result, Ok, refl, ap, sym, ◌∙◌, subst}
+use Rattle.std.proofs.Common.{◌≡◌, ◌↔◌, ◌<◌, ◌≤◌, ◌+◌, ℕ, IsTrue, Bool, true, false, ◌&&◌, List, [], ◌∷◌, length, map, drop, get_or, Option, None, Result, Ok, refl, ap, sym, ◌∙◌, subst}
 use Rattle.std.specs.List.{list_all}
 use Rattle.wl_expr.specs.Tree.{Tree}
 use Rattle.wl_expr.specs.Same.{same}
@@ -11,6 +11,7 @@ use Rattle.wl_match.specs.Literals.{is_free, all_free, literal, literals, leaves
 use Rattle.wl_match.specs.Pattern.{pattern}
 use Rattle.wl_match.specs.Search.{Fail, Found}
 use Rattle.wl_match.specs.Trials.{Trials}
+use Rattle.wl_match.proofs.LentLemmas.{same_is}
 use Rattle.wl_match.proofs.LiteralLemmas.{one_leaf}
 use Rattle.wl_eval.specs.Match.{walk, filling, flags_of, rule_result}
 use Rattle.wl_eval.specs.Prog.{done, tick, ◌>>=◌}
@@ -64,12 +65,17 @@ pub walk_missed : (b : Tree) → walk (filling b) (Fail ∷ []) ≡ (tick >>= λ
 unfolding walk
 walk_missed b = refl
 
-module _ (b p t : Tree) (fs : List Flags) (f : Name → Flags) {k k1 k2 : Evaluator} (h : Plays (flags_of [] (heads p)) k (Ok f) k1 false) (m : Missed f p t fs) where
-  pub rule_missed : Plays tick k1 (Ok tt) k2 false → Plays (rule_result (record { left = p; body = b }) t) k (Ok None) k2 false
-  rule_missed q =
-      plays_bind (flags_of [] (heads p)) (λ g. walk (filling b) (Trials (pattern g p) t)) h
-      (subst (λ w. Plays w k1 (Ok None) k2 false) (sym (ap (walk (filling b)) (missed f p t fs m) ∙ walk_missed b)) (plays_bind tick (λ _. done None) q plays_done))
+-- what the tests of a left side and of the subject say
+pub missed_so : (f : Name → Flags) (p t : Tree) (fs : List Flags) (a b : Bool) → a ≡ (list_all is_free fs && literal p) → a ≡ true → (IsTrue b ↔ (p ≡ t)) → b ≡ false → fs ≡ map f (heads p) → Missed f p t fs
+missed_so f p t fs a b e h s n q = record { itself = sym e ∙ h; flags = q; other = sym (same_is b p t s) ∙ n }
 
-  pub rule_stopped : (r : Result (Option Stamped) Stop) → Played found_tree (tick >>= λ _. done None) k1 r k2 → Played found_tree (rule_result (record { left = p; body = b }) t) k r k2
-  rule_stopped r q =
-      played_bind found_tree _ _ k k1 f r k2 h (subst (λ w. Played found_tree w k1 r k2) (sym (ap (walk (filling b)) (missed f p t fs m) ∙ walk_missed b)) q)
+module _ (b p t : Tree) (fs : List Flags) (f : Name → Flags) {k k1 : Evaluator} (h : Plays (flags_of [] (heads p)) k (Ok f) k1 false) (m : Missed f p t fs) where
+  walks : walk (filling b) (Trials (pattern f p) t) ≡ (tick >>= λ _. done None)
+  walks = ap (walk (filling b)) (missed f p t fs m) ∙ walk_missed b
+
+  pub rule_stopped : (r : Result (Option Stamped) Stop) (k2 : Evaluator) → Played found_tree (tick >>= λ _. done None) k1 r k2 → Played found_tree (rule_result (record { left = p; body = b }) t) k r k2
+  rule_stopped r k2 q =
+      played_bind found_tree (flags_of [] (heads p)) (λ g. walk (filling b) (Trials (pattern g p) t)) k k1 f r k2 h (subst (λ w. Played found_tree w k1 r k2) (sym walks) q)
+
+  pub rule_missed : (k2 : Evaluator) → Plays tick k1 (Ok tt) k2 false → Played found_tree (rule_result (record { left = p; body = b }) t) k (Ok None) k2
+  rule_missed k2 q = rule_stopped (Ok None) k2 (plays_bind tick (λ _. done None) q plays_done, tt)

@@ -95,6 +95,7 @@ use Rattle.wl_eval.specs.State.{Thrown}
 use Rattle.wl_eval.proofs.Catching.{abort_two, catch_one, catch_two, end_honest, tagged_is, tagged_passed, tagged_thrown, thrown_caught, thrown_on, thrown_stops}
 use Rattle.wl_eval.proofs.Hushing.{check_two, hushed_is, leaf_quietly, quiet_ended, quiet_one, quieted_sound, unheard_sound}
 use Rattle.wl_eval.proofs.SlotParts.{built_in-function}
+use Rattle.wl_eval.proofs.LiteralParts.{missed_so, rule_missed, rule_stopped}
 use Rattle.wl_eval.proofs.evaluator.Evaluator.+eval.Goals as goal
 
 -- ---- which rule applies
@@ -1096,7 +1097,7 @@ pub rule_result-returns-clause-played : goal.rule_result-returns-clause-played
 rule_result-returns-clause-played g t c =
     let r = c.args.rule.now in
     let f = c.in_ok-flags.ensures.played in
-    rule_played (plain r.body) (plain r.left) (plain c.args.e.now) (whole c.in_ok-pattern.pattern) f.0 _ _ _ _ f.1 (c.in_ok-pattern.ensures.named f.0 (c.as_slice.ensures.value ∙ f.2)) c.first_filling.ensures.played
+    rule_played (plain r.body) (plain r.left) (plain c.args.e.now) (whole c.in_ok-pattern.pattern) f.0 _ _ _ _ f.1 (c.in_ok-pattern.ensures.named f.0 (c.as_slice-2.ensures.value ∙ f.2)) c.first_filling.ensures.played
 
 -- ---- a trial
 
@@ -2357,3 +2358,23 @@ other_row-returns-in-Quiet-clause-played g t c = subst (λ z. Played found_tree 
 
 pub other_row-returns-in-Check-clause-played : goal.other_row-returns-in-Check-clause-played
 other_row-returns-in-Check-clause-played g t c = subst (λ z. Played found_tree (sized_row (kinds.row_by z (trees c.args.args.now))) c.args.self.now c.check_row.result c.check_row.new.self) (sym c.in-Check.is) c.check_row.ensures.played
+
+-- ---- a rule that matches nothing but itself
+
+pub rule_result-returns-in_err-take_step-clause-played : goal.rule_result-returns-in_err-take_step-clause-played
+rule_result-returns-in_err-take_step-clause-played g t c =
+    let r = c.args.rule.now in
+    let u = plain c.args.e.now in
+    let f = c.in_ok-flags.ensures.played in
+    let fs = c.as_slice.result.now in
+    let m = missed_so f.0 (plain r.left) u fs c.matches_itself.result c.same.result c.matches_itself.ensures c.if-matches_itself.true c.same.ensures c.if-not-same.true (c.as_slice.ensures.value ∙ f.2) in
+    rule_stopped (plain r.body) (plain r.left) u fs f.0 f.1 m _ _ (exit itself found_tree _ _ _ _ _ _ c.from_residual-in_err-take_step.ensures.1 c.in_err-take_step.ensures.played)
+
+pub rule_result-returns-then-not-same-clause-played : goal.rule_result-returns-then-not-same-clause-played
+rule_result-returns-then-not-same-clause-played g t c =
+    let r = c.args.rule.now in
+    let u = plain c.args.e.now in
+    let f = c.in_ok-flags.ensures.played in
+    let fs = c.as_slice.result.now in
+    let m = missed_so f.0 (plain r.left) u fs c.matches_itself.result c.same.result c.matches_itself.ensures c.if-matches_itself.true c.same.ensures c.if-not-same.true (c.as_slice.ensures.value ∙ f.2) in
+    rule_missed (plain r.body) (plain r.left) u fs f.0 f.1 m _ c.in_ok-take_step.ensures.played.0
