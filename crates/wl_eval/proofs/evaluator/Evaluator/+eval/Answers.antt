@@ -74,7 +74,7 @@ use Rattle.wl_eval.specs.Honest.{Grows}
 use Rattle.wl_eval.specs.Replies.{AreTaken, Comes, Finishes, HonestAsk, Ready, caught_reply, set_aside, told_by}
 use Rattle.wl_eval.specs.declared.replies.Outcome.TheVariants as outcome
 use Rattle.wl_eval.specs.declared.replies.Reply.TheVariants as replies
-use Rattle.wl_eval.proofs.ControlParts.{asked_honest, catches_behind, catches_not, caught_goes, caught_played, caught_stops, comes_at, comes_exit, finishes_exit, holds_next, let_goes, match_goes, match_stops, none_is, none_taken, overflow_ends, pass_goes, pass_stops, proceeds_ends, proceeds_first, proceeds_on, protected_row, ready_at, ready_exit, ready_large, ready_same, ready_set, ready_stop, ready_then, refused_finishes, result_ends, row_begins, row_bounded, set_named, set_nothing, started, starts_row, unchanged_ends, unprotected_row, value_goes, value_stops}
+use Rattle.wl_eval.proofs.ControlParts.{asked_honest, catches_behind, catches_not, caught_goes, caught_played, caught_stops, comes_at, comes_exit, finishes_exit, holds_next, let_goes, match_goes, match_stops, none_taken, overflow_ends, pass_goes, pass_stops, proceeds_ends, proceeds_first, proceeds_on, protected_row, ready_at, ready_exit, ready_large, ready_same, ready_set, ready_stop, ready_then, refused_finishes, result_ends, row_begins, row_bounded, set_named, set_nothing, started, starts_row, unchanged_ends, unprotected_row, value_goes, value_stops}
 use Rattle.wl_eval.proofs.Tables.{row_control}
 use Rattle.wl_eval.specs.LocalNames as local_names
 use Rattle.wl_eval.specs.LocalNames.{local_in, locals_in}
@@ -95,6 +95,7 @@ use Rattle.wl_eval.specs.State.{Thrown}
 use Rattle.wl_eval.proofs.Catching.{abort_two, catch_one, catch_two, end_honest, tagged_is, tagged_passed, tagged_thrown, thrown_caught, thrown_on, thrown_stops}
 use Rattle.wl_eval.proofs.Hushing.{check_two, hushed_is, leaf_quietly, quiet_ended, quiet_one, quieted_sound, unheard_sound}
 use Rattle.wl_eval.proofs.SlotParts.{built_in-function}
+use Rattle.wl_eval.proofs.IteratorParts.{none_is}
 use Rattle.wl_eval.proofs.LiteralParts.{missed_so, rule_missed, rule_stopped}
 use Rattle.wl_eval.proofs.evaluator.Evaluator.+eval.Goals as goal
 
