@@ -8,7 +8,7 @@ use Rattle.wl_expr.specs.Stamped as stamped
 use Rattle.wl_expr.specs.Stamped.{Stamped, plain, plains}
 use Rattle.wl_expr.specs.Tree as tree
 use Rattle.wl_expr.specs.Tree.{Tree, Trees, num, text, symbol, node, depth, depths}
-use Rattle.wl_expr.specs.Words.{applied, fits, truth}
+use Rattle.wl_expr.specs.Words.{applied, fits, natural, truth}
 use Rattle.wl_expr.specs.declared.fault.ExprFault.{ExprFault}
 use Rattle.wl_rules.specs.Entries.{PlainRule}
 use Rattle.wl_rules.specs.declared.rule.Rule.{Rule}
@@ -284,3 +284,15 @@ delete_atom (node h ts) p f = absurd (f h ts refl)
 pub delete_node : (e p h : Tree) (es : List Stamped) → node h (plains (stamped.from_list es)) ≡ e → delete_cases_row (e ∷ p ∷ []) ≡ (unmatched [] p (trees es) >>= λ us. result (applied h us))
 delete_node e p h es q =
     ap (λ z. delete_cases_row (z ∷ p ∷ [])) (sym q) ∙ ap (λ ts. unmatched [] p ts >>= λ us. result (applied h us)) (list_of_plains es)
+
+-- ---- a count
+
+num_honest : (k : Evaluator) (e : Stamped) (n : ℕ) → plain e ≡ natural n → Honest k e
+num_honest k (stamped.num m) n q = tt
+num_honest k (stamped.text s) n q = absurd (let w : text s ≡ natural n = q in cc)
+num_honest k (stamped.symbol p x) n q = absurd (let w : symbol x ≡ natural n = q in cc)
+num_honest k (stamped.node p h ts) n q = absurd (let w : node (plain h) (plains ts) ≡ natural n = q in cc)
+
+pub row_count : (p : Prog ℕ) (k k1 : Evaluator) (n : ℕ) (e : Stamped) → Plays p k (Ok n) k1 false → plain e ≡ natural n → Played found_tree (sized_row (p >>= λ c. result (natural c))) k (Ok (Some e)) k1
+row_count p k k1 n e h q =
+    row_gives _ k k1 e (plays_bind p _ h (plays_done_is (ap Some (sym q)))) (subst (λ t. fits t ≡ true) (sym q) refl) (num_honest k1 e n q)

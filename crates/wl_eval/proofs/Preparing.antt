@@ -2,7 +2,8 @@
 use Rattle.std.proofs.Common.{◌≡◌, ◌≢◌, ℕ, ◌<◌, Bool, true, false, ◌||◌, List, [], ◌∷◌, length, map, get_or, Option, Some, None, option_map, is_some, Result, Ok, Err, IfOk, refl, sym, ap, ap₂, ◌∙◌, subst, subst₂, arith, true≢false}
 use Rattle.std.proofs.lemmas.Result.{err_from_is_err_and}
 use Rattle.std.specs.Result.{IsErrAnd}
-use Rattle.std.specs.Prelude.{codes}
+use Rattle.std.specs.Borrow.{Bor}
+use Rattle.std.specs.Prelude.{IfSome, codes}
 use Rattle.wl_assign.specs.Core.{core, is_held, is_around, holds}
 use Rattle.wl_expr.specs.Special as special
 use Rattle.wl_expr.specs.Special.{Special, condition, special_node, special_named}
@@ -19,6 +20,7 @@ use Rattle.wl_shape.specs.Answers.{IsShaped, plain_shaped}
 use Rattle.wl_shape.specs.Shape.{Shaped, rebuilt, threaded, uneven, shape, shaped_tree, spliced_list, without_sequences}
 use Rattle.wl_shape.specs.declared.arrangement.Shaped as code
 use Rattle.wl_shape.specs.declared.arrangement.Shaped.TheVariants as variant
+use Rattle.wl_eval.specs.State.{End}
 use Rattle.wl_eval.specs.Prog.{Prog, done, ◌>>=◌, attributes_of, sized}
 use Rattle.wl_eval.specs.Elements.{evaluated}
 use Rattle.wl_eval.specs.Definitions.{LeftSide, evaluated_core, core_of, prepared}
@@ -34,7 +36,7 @@ use Rattle.wl_eval.proofs.Guarding.{condition_is}
 use Rattle.wl_eval.proofs.Playing.{plays_bind, plays_done}
 use Rattle.wl_eval.proofs.Matches.{exit}
 use Rattle.wl_eval.proofs.Rounds.{plays_no_attributes}
-use Rattle.wl_eval.proofs.Rows.{played_bind, played_stop}
+use Rattle.wl_eval.proofs.Rows.{later, played_bind, played_stop}
 use Rattle.wl_eval.proofs.Values.{list_of_plains}
 
 -- ---- the condition of a right side
@@ -105,6 +107,17 @@ unfit_first h t ts e = beyond (node h (more t ts)) (large_args h (more t ts) (λ
 
 pub unfit_second : (h t u : Tree) (ts : Trees) → fits u ≡ false → fits (node h (more t (more u ts))) ≡ false
 unfit_second h t u ts e = beyond (node h (more t (more u ts))) (large_args h (more t (more u ts)) (λ s. not_within u e record { light = omega (arith, s.light); shallow = omega (arith, s.shallow) }))
+
+pub unfit_within : (l c : Tree) → fits c ≡ false → fits (with_core l c) ≡ false
+unfit_within (num n) c e = e
+unfit_within (text s) c e = e
+unfit_within (symbol x) c e = e
+unfit_within (node h none) c e = e
+unfit_within (node h (more l ts)) c e = go (is_around (special_node h (to_list (more l ts))))
+  where
+    go : (b : Bool) → fits (elim b [ true ↦ node h (more (with_core l c) ts) | false ↦ c ]) ≡ false
+    go true = unfit_first h (with_core l c) ts (unfit_within l c e)
+    go false = e
 
 -- ---- sequences among elements
 
@@ -213,6 +226,11 @@ held_made l e k b q h = subst (λ p. MadeBy p k (Ok (Some e)) k) (sym (held_core
 
 pub open_made : (l c : Tree) {k k1 : Evaluator} {r : Result (Option Stamped) Stop} → is_held l ≡ false → c ≡ core l → MadeBy (evaluated_core c) k r k1 → MadeBy (core_of l) k r k1
 open_made l c {k} {k1} {r} b q m = subst (λ p. MadeBy p k r k1) (sym (open_core l b)) (subst (λ z. MadeBy (evaluated_core z) k r k1) q m)
+
+-- an honest condition is so later
+pub condition_later : {R : Type 0} {p : Prog R} {k k1 : Evaluator} {r : Result R End} {o : Bool} → Plays p k r k1 o → (c : Option (Bor Stamped)) → IfSome c (λ e. Honest k e.now) → IfSome c (λ e. Honest k1 e.now)
+condition_later x None h = tt
+condition_later x (Some e) h = later x e.now h
 
 -- ---- the function that prepares a left side
 

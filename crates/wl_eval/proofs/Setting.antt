@@ -1,9 +1,10 @@
 -- How the rows play that define, set and take away.
-use Rattle.std.proofs.Common.{◌≡◌, ℕ, ◌+◌, ◌≤◌, ◌<◌, Bool, true, false, ◌&&◌, not, List, [], ◌∷◌, length, drop, get_or, Option, Some, None, option_map, Result, Ok, Err, refl, sym, ap, ap₂, ◌∙◌, subst, arith, true≢false}
-use Rattle.std.proofs.lemmas.List.{drop_all}
+use Rattle.std.proofs.Common.{◌≡◌, ℕ, ◌+◌, ◌≤◌, ◌<◌, Bool, true, false, ◌&&◌, not, List, [], ◌∷◌, length, drop, get_or, Option, Some, None, option_map, is_some, Result, Ok, Err, refl, sym, ap, ap₂, ◌∙◌, subst, arith, true≢false}
+use Rattle.std.proofs.lemmas.List.{drop_all, length-map}
 use Rattle.std.specs.Prelude.{codes, nat_eq}
 use Rattle.wl_assign.specs.Targets.{target}
-use Rattle.wl_expr.specs.Stamped.{Stamped, plain}
+use Rattle.wl_expr.specs.Stamped as stamped
+use Rattle.wl_expr.specs.Stamped.{Stamped, plain, plains}
 use Rattle.wl_expr.specs.Tree.{Tree, Trees, num, text, symbol, node, none, more, to_list, from_list, from_list_to_list}
 use Rattle.wl_expr.specs.Words.{Name, Bytes, form, is_the, is_list, elements, failed_symbol, null_symbol}
 use Rattle.wl_shape.specs.Elements.{list_elements}
@@ -11,16 +12,20 @@ use Rattle.wl_eval.specs.State.{End}
 use Rattle.wl_eval.specs.Prog.{Prog, done, ◌>>=◌, message, result}
 use Rattle.wl_eval.specs.Definitions as definitions
 use Rattle.wl_eval.specs.Definitions.{LeftSide, define_target, define_up_target, define_tagged_by, tagged, set, set_each, set_message, set_plain, set_node, prepared}
-use Rattle.wl_eval.specs.LeftSides.{Sides, moved_condition}
+use Rattle.wl_eval.specs.LeftSides.{Sides, moved_condition, with_core}
 use Rattle.wl_eval.specs.MessageRows.{MessageName, message_name}
 use Rattle.wl_eval.specs.Operands.{name_and_text, taken_answer}
-use Rattle.wl_eval.specs.Played.{Plays, Leads, trees}
-use Rattle.wl_eval.specs.Prepared.{refusal, set_one, set_by, same_shape, under, sides_by}
+use Rattle.wl_eval.specs.Parts.{sized_row}
+use Rattle.wl_eval.specs.Played.{Played, Plays, Leads, found_tree, trees}
+use Rattle.wl_eval.specs.Prepared.{refusal, refusal_name, set_one, set_by, same_shape, under, sides_by}
 use Rattle.wl_eval.specs.declared.evaluator.Evaluator.{Evaluator}
 use Rattle.wl_eval.proofs.HistoryRowParts.{message_named, message_unnamed}
 use Rattle.wl_eval.proofs.Playing.{plays_bind, plays_done}
+use Rattle.wl_eval.proofs.Preparing.{within_under}
+use Rattle.wl_eval.proofs.RowParts.{row_gives}
 use Rattle.wl_eval.proofs.Rows.{leads_bind}
 use Rattle.wl_eval.proofs.Shapings.{next_of}
+use Rattle.wl_eval.proofs.Values.{list_of_plains}
 
 -- ---- one left side
 
@@ -156,6 +161,10 @@ set_list (node h ls) v es e = go (is_the (codes "List") h) e
         ∙ ap (λ us. set_by (from_list us) (node h ls) v (same_shape (length us) v)) (sym w)
     go false q = absurd (let w : Some es ≡ None = q in cc)
 
+-- the same by the elements that were read
+pub set_shape : (l v : Tree) (ls : List Stamped) (o : Option (List Tree)) → Some (trees ls) ≡ list_elements l → o ≡ same_shape (length ls) v → set l v ≡ set_by (from_list (trees ls)) l v o
+set_shape l v ls o e q = set_list l v (trees ls) e ∙ ap (λ n. set_by (from_list (trees ls)) l v (same_shape n v)) (length-map ls plain) ∙ ap (set_by (from_list (trees ls)) l v) (sym q)
+
 pub each_over : (vs : List Tree) → set_each none vs ≡ done tt
 unfolding set_each
 each_over vs = refl
@@ -165,17 +174,24 @@ unfolding set_each
 each_next l v ls vs = refl
 
 module _ (ls vs : List Stamped) (i : ℕ) where
+  pub set_at : (l v : Stamped) → i < length ls → length vs ≡ length ls → l ≡ get_or ls i l → v ≡ get_or vs i v
+      → set_each (from_list (trees (drop i ls))) (trees (drop i vs)) ≡ (set (plain l) (plain v) >>= λ _. set_each (from_list (trees (drop (i + 1) ls))) (trees (drop (i + 1) vs)))
+  set_at l v b n p q =
+      ap₂ (λ (us ws : List Stamped). set_each (from_list (trees us)) (trees ws)) (next_of ls i l b p) (next_of vs i v (omega (arith, b, n)) q)
+      ∙ each_next (plain l) (plain v) (from_list (trees (drop (i + 1) ls))) (trees (drop (i + 1) vs))
+
   pub set_step : (l v : Stamped) {w : Prog (Unit {0})} {k k1 k2 : Evaluator} → i < length ls → length vs ≡ length ls → l ≡ get_or ls i l → v ≡ get_or vs i v → Leads w k (set_each (from_list (trees (drop i ls))) (trees (drop i vs))) k1
       → Plays (set (plain l) (plain v)) k1 (Ok tt) k2 false → Leads w k (set_each (from_list (trees (drop (i + 1) ls))) (trees (drop (i + 1) vs))) k2
   set_step l v {k1 = k1} b n p q h m r k3 o d =
-      h r k3 o (subst (λ z. Plays z k1 r k3 o) (sym at) (leads_bind (set (plain l) (plain v)) (λ _. set_each (from_list (trees (drop (i + 1) ls))) (trees (drop (i + 1) vs))) m r k3 o d))
-    where
-      at : set_each (from_list (trees (drop i ls))) (trees (drop i vs)) ≡ (set (plain l) (plain v) >>= λ _. set_each (from_list (trees (drop (i + 1) ls))) (trees (drop (i + 1) vs)))
-      at = ap₂ (λ (us ws : List Stamped). set_each (from_list (trees us)) (trees ws)) (next_of ls i l b p) (next_of vs i v (omega (arith, b, n)) q)
-          ∙ each_next (plain l) (plain v) (from_list (trees (drop (i + 1) ls))) (trees (drop (i + 1) vs))
+      h r k3 o (subst (λ z. Plays z k1 r k3 o) (sym (set_at l v b n p q)) (leads_bind (set (plain l) (plain v)) (λ _. set_each (from_list (trees (drop (i + 1) ls))) (trees (drop (i + 1) vs))) m r k3 o d))
 
   pub set_over : {w : Prog (Unit {0})} {k k1 : Evaluator} → length ls ≤ i → Leads w k (set_each (from_list (trees (drop i ls))) (trees (drop i vs))) k1 → Plays w k (Ok tt) k1 false
   set_over {k1 = k1} b h = h _ _ _ (subst (λ z. Plays z k1 (Ok tt) k1 false) (sym (ap (λ (us : List Stamped). set_each (from_list (trees us)) (trees (drop i vs))) (drop_all i ls b) ∙ each_over (trees (drop i vs)))) plays_done)
+
+-- the elements of a list, where they were read
+pub list_read : (h t : Tree) (es : List Stamped) → is_the (codes "List") h ≡ true → node h (plains (stamped.from_list es)) ≡ t → Some (trees es) ≡ list_elements t
+list_read h t es e q =
+    ap Some (sym (list_of_plains es)) ∙ sym (ap (λ (b : Bool). elim b as (λ _. Option (List Tree)) [ true ↦ Some (to_list (plains (stamped.from_list es))) | false ↦ None ]) e) ∙ ap list_elements q
 
 -- ---- definitions
 
@@ -197,3 +213,30 @@ delayed_plays p b k k1 h = plays_bind p _ h (at b)
 pub taken_refusal : (b : Bool) → taken_answer b ≡ refusal (not b)
 taken_refusal true = refl
 taken_refusal false = refl
+
+pub row_refusal : (p : Prog Bool) (b : Bool) (k k1 : Evaluator) (e : Stamped) → e ≡ stamped.symbol None (refusal_name b) → Plays p k (Ok b) k1 false → Played found_tree (sized_row (definitions.delayed p)) k (Ok (Some e)) k1
+row_refusal p true k k1 e q h = subst (λ z. Played found_tree (sized_row (definitions.delayed p)) k (Ok (Some z)) k1) (sym q) (row_gives (definitions.delayed p) k k1 (stamped.symbol None (codes "$Failed")) (delayed_plays p true k k1 h) refl tt)
+row_refusal p false k k1 e q h = subst (λ z. Played found_tree (sized_row (definitions.delayed p)) k (Ok (Some z)) k1) (sym q) (row_gives (definitions.delayed p) k k1 (stamped.symbol None (codes "Null")) (delayed_plays p false k k1 h) refl tt)
+
+pub row_taken : (p : Prog (Option Tree)) (b : Bool) (k k1 : Evaluator) (e : Stamped) → e ≡ stamped.symbol None (refusal_name (not b)) → Plays p k (Ok (Some (taken_answer b))) k1 false → Played found_tree (sized_row p) k (Ok (Some e)) k1
+row_taken p true k k1 e q h = subst (λ z. Played found_tree (sized_row p) k (Ok (Some z)) k1) (sym q) (row_gives p k k1 (stamped.symbol None (codes "Null")) h refl tt)
+row_taken p false k k1 e q h = subst (λ z. Played found_tree (sized_row p) k (Ok (Some z)) k1) (sym q) (row_gives p k k1 (stamped.symbol None (codes "$Failed")) h refl tt)
+
+-- a left side that is a symbol has no condition
+pub no_condition : {A : Type 0} (f : A → Tree) (o : Option A) (l c t : Tree) (x : Name) → t ≡ with_core (under (option_map f o) l) c → t ≡ symbol x → is_some o ≡ false
+no_condition f None l c t x e q = refl
+no_condition f (Some d) l c t x e q = absurd (let w : form (codes "Condition") (with_core l c ∷ f d ∷ []) ≡ symbol x = sym (within_under (Some (f d)) l c) ∙ sym e ∙ q in cc)
+
+-- ---- definitions by tags
+
+abbrev pub define_up_by : Tree → Sides → Prog Bool
+define_up_by v m = prepared m.left >>= λ s. define_up_target s m.body v (target s.core)
+
+pub define_up_sides : (l v : Tree) (m : Sides) → moved_condition l v ≡ m → definitions.define_up l v ≡ define_up_by v m
+define_up_sides l v m e = ap (define_up_by v) e
+
+abbrev pub define_tagged_with : Name → Tree → Sides → Prog Bool
+define_tagged_with g v m = prepared m.left >>= λ s. define_tagged_by g s m.body v (tagged g s.core)
+
+pub define_tagged_sides : (g : Name) (l v : Tree) (m : Sides) → moved_condition l v ≡ m → definitions.define_tagged g l v ≡ define_tagged_with g v m
+define_tagged_sides g l v m e = ap (define_tagged_with g v) e

@@ -173,6 +173,7 @@ impl Evaluator {
         work: &mut Work<L>,
     ) -> Result<bool, Memory>
         ensures played { IfOk result (λ b. Plays (definitions.refused_raw (plain core.now)) self.old (Ok b) self.new false) }
+        ensures refused { IfOk result (λ b. b ≡ true) }
         ensures kept { self.new.steps ≡ self.old.steps }
     {
         let first = leftmost(core);
@@ -189,6 +190,7 @@ impl Evaluator {
     ) -> Result<bool, Memory>
         requires { IsName name.now }
         ensures played { IfOk result (λ b. Plays (definitions.refused_tag name.now (plain core.now)) self.old (Ok b) self.new false) }
+        ensures refused { IfOk result (λ b. b ≡ true) }
         ensures kept { self.new.steps ≡ self.old.steps }
     {
         let subject = symbol(self.alloc, name)?;
@@ -249,6 +251,7 @@ impl Evaluator {
         let found = self.remove_rule(name, kind, left, work)?;
         Ok(found)
     }
+
     /// Gives a left side the rule of its core, and answers whether that is refused.
     pub(crate) fn define_target<L: Ledger>(
         &mut self,

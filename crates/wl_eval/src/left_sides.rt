@@ -34,6 +34,7 @@ pub(crate) struct Prepared {
 /// The body that a right side stands for, and the condition that it brings to the left side.
 pub(crate) fn moved(value: &Expr) -> (&Expr, Option<&Expr>)
     ensures moved { (l : Tree) → moved_condition l (plain value.now) ≡ sides_by l (plain result.0.now) (option_map (λ c. plain c.now) result.1) }
+    ensures stays { is_some result.1 ≡ false → plain result.0.now ≡ plain value.now }
     ensures body { (a : Stored) → HonestIn a value.now → HonestIn a result.0.now }
     ensures condition { (a : Stored) → HonestIn a value.now → IfSome result.1 (λ c. HonestIn a c.now) }
 {

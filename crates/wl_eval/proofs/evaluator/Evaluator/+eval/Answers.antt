@@ -57,9 +57,9 @@ use Rattle.wl_eval.specs.Replacing.{found_trees}
 use Rattle.wl_eval.proofs.MatchRowParts.{any_at, any_none, args_depth, element_depth, listed_honest, node_honest, pair_honest, rule_honest, cases_at, cases_leads, cases_over, count_at, count_over, delete_atom, delete_node, elements_over, leads_to, nothing_more, one_more, pair_is, pair_row, pair_stays, part_at, part_is, part_leads, part_node, part_none, row_exit, row_truth, sifted_at, sifted_leads, sifted_over}
 use Rattle.wl_eval.proofs.RowParts.{row_at, row_gives, row_made}
 use Rattle.wl_eval.specs.Replacing.{AllHonestMaybe, each_of, part_of, replacing, replacing_each, seen_each, seen_replaced, seen_result}
-use Rattle.wl_eval.proofs.ReplaceRowParts.{below_leads, each_next, each_over, leaf_replaced, node_below, pushed_honest, pushed_trees, rebuilt_honest, rebuilt_is, replacing_is, result_replaced, step_stops, trial_next, became, each_honest, each_later, each_leads, none_is, pass_ends, pass_goes, pass_steps, pass_stops, read_honest, read_is, replace_all_is, replace_is, replace_repeated_is, take_whole}
+use Rattle.wl_eval.proofs.ReplaceRowParts.{below_leads, each_next, each_over as parts_over, leaf_replaced, node_below, pushed_honest, pushed_trees, rebuilt_honest, rebuilt_is, replacing_is, result_replaced, step_stops, trial_next, became, each_honest, each_later, each_leads as parts_leads, none_is as trial_none, pass_ends, pass_goes as again_goes, pass_steps, pass_stops as again_stops, read_honest, read_is, replace_all_is, replace_is, replace_repeated_is, take_whole}
 use Rattle.std.specs.Prelude.{IfSome, option_copied}
-use Rattle.wl_control.specs.Asks.{Asks}
+use Rattle.wl_control.specs.Asks.{Asks as Row}
 use Rattle.wl_control.specs.Cursors.{HoldsFrom}
 use Rattle.wl_control.specs.Places.{plain_ask}
 use Rattle.wl_control.specs.Stand.{IsAwaited, after, start, starts}
@@ -82,7 +82,7 @@ use Rattle.wl_eval.specs.ScopeRows as scope_rows
 use Rattle.wl_eval.specs.Scoping as scoping
 use Rattle.wl_eval.proofs.LocalParts.{locals_at, locals_push, no_locals}
 use Rattle.wl_eval.proofs.ScopingParts.{local_at, local_later, locals_later, locals_pushed}
-use Rattle.wl_eval.proofs.ScopeRowParts.{block_exit, block_on, block_played, block_row-on, given_plays, given_stops, initial_by, initial_none, initial_some, initials_is, initials_over, module_on, module_plays, module_row-on, row_exit, with_on, with_plays, with_row-on}
+use Rattle.wl_eval.proofs.ScopeRowParts.{block_exit, block_on, block_played, block_row-on, given_plays, given_stops, initial_by, initial_none, initial_some, initials_is, initials_over, module_on, module_plays, module_row-on, row_exit as scope_exit, with_on, with_plays, with_row-on}
 use Rattle.wl_eval.proofs.RowParts.{row_stays, row_at, row_made}
 use Rattle.wl_eval.proofs.ScopeRowParts.{initial_gives, shallow_push}
 use Rattle.wl_eval.proofs.GuardParts.{guard_block, guard_condition, guard_module, guard_none, guard_with}
@@ -97,6 +97,23 @@ use Rattle.wl_eval.proofs.Hushing.{check_two, hushed_is, leaf_quietly, quiet_end
 use Rattle.wl_eval.proofs.SlotParts.{built_in-function}
 use Rattle.wl_eval.proofs.IteratorParts.{none_is}
 use Rattle.wl_eval.proofs.LiteralParts.{missed_so, rule_missed, rule_stopped}
+use Rattle.wl_expr.proofs.SameNodes.{same_answer}
+use Rattle.wl_expr.specs.Tree.{depths}
+use Rattle.wl_shape.specs.Shape.{without_sequences}
+use Rattle.wl_eval.specs.Definitions as definitions
+use Rattle.wl_eval.specs.LeftSides.{with_core}
+use Rattle.wl_eval.specs.Played.{honest_tree}
+use Rattle.wl_eval.specs.Prepared.{Stands, prepared_side, under, set_one, updated, one, kept as kept_value}
+use Rattle.wl_eval.proofs.Rows.{played_stop}
+use Rattle.wl_eval.proofs.Values.{passed_honest}
+use Rattle.wl_eval.proofs.RowParts.{made_is}
+use Rattle.wl_eval.proofs.MatchRowParts.{head_depth}
+use Rattle.wl_eval.proofs.Preparing.{condition_later, leaf_core, node_core, made_stop, made_bind, made_done, held_made, open_made, prepared_stop, unsized_stop, sides_given}
+use Rattle.wl_eval.proofs.Setting.{define_sides, define_up_sides, define_tagged_sides, no_condition, row_refusal, row_taken, set_text, set_single, set_shape, set_at, set_step, set_over}
+use Rattle.wl_eval.proofs.Updating.{changing_stop, changing_none, new_stop, new_given, chosen_is, chosen_honest}
+use Rattle.wl_eval.proofs.DefiningRows.{by, read_some, set_both, set_row-by, delay_both, set_delayed_row-by, up_both, up_set_row-by, up_delay_both, up_set_delayed_row-by, unset_one, unset_row-by, changed_both, changing_by-by, stepping-by, tag_three, tag_set_row-by, tag_delay_three, tag_set_delayed_row-by, tag_unset, tag_unset_row-by}
+use Rattle.wl_eval.proofs.MatchRowParts.{row_count}
+use Rattle.wl_eval.proofs.ReplaceRowParts.{replacing_stops}
 use Rattle.wl_eval.proofs.evaluator.Evaluator.+eval.Goals as goal
 
 -- ---- which rule applies
@@ -1575,7 +1592,7 @@ replace_each-loop-i-preserved g t c =
     let k1 = c.replace_all.new.self in
     let h = c.in_ok-part.ensures.played in
     record {
-      leads = each_leads xs l.i x l.before c.in_ok-before.before c.in_ok-part.part (omega arith) c.index-args-i.is c.in_ok-before.ensures (map plain_rule c.args.rules.now) _ _ _ _ h.0 l.invariant.leads;
+      leads = parts_leads xs l.i x l.before c.in_ok-before.before c.in_ok-part.part (omega arith) c.index-args-i.is c.in_ok-before.ensures (map plain_rule c.args.rules.now) _ _ _ _ h.0 l.invariant.leads;
       sound = h.0.sound l.invariant.sound;
       rules = rules_later h.0 _ l.invariant.rules;
       args = all_later h.0 _ l.invariant.args;
@@ -1590,7 +1607,7 @@ replace_each-returns-clause-played g t c =
     let rs = map plain_rule c.args.rules.now in
     let us = option_map trees (each_of (take l.i xs) l.before) in
     let w = take_whole xs l.i (omega arith) in
-    (subst (λ z. Plays (replacing_each (Some []) rs (trees xs)) c.args.self.now (Ok (option_map trees (each_of z l.before))) l.self false) w (elements_over (replacing_each us rs) us xs l.i _ _ _ (each_over us rs) (omega arith) l.invariant.leads),
+    (subst (λ z. Plays (replacing_each (Some []) rs (trees xs)) c.args.self.now (Ok (option_map trees (each_of z l.before))) l.self false) w (elements_over (replacing_each us rs) us xs l.i _ _ _ (parts_over us rs) (omega arith) l.invariant.leads),
      subst (λ z. AllHonestMaybe l.self (each_of z l.before)) w l.invariant.before)
 
 pub replace_repeated-returns-in_err-take_step-clause-played : goal.replace_repeated-returns-in_err-take_step-clause-played
@@ -1605,7 +1622,7 @@ replace_repeated-returns-in_err-replaced-clause-played g t c n l =
     let first = plain c.args.first.now in
     let u = plain s.subject in
     let pass = pass_steps n rs first c.args.self.now u s.self c.take_step.new.self (s.invariant.passing n l) c.in_ok-take_step.ensures.played.0 in
-    pass_stops seen_result n rs first _ s.subject _ _ _ _ _ pass c.from_residual-in_err-replaced.ensures.1 c.in_err-replaced.ensures.played
+    again_stops seen_result n rs first _ s.subject _ _ _ _ _ pass c.from_residual-in_err-replaced.ensures.1 c.in_err-replaced.ensures.played
 
 pub replace_repeated-returns-in_err-value-clause-played : goal.replace_repeated-returns-in_err-value-clause-played
 replace_repeated-returns-in_err-value-clause-played g t c n l =
@@ -1651,7 +1668,7 @@ replace_repeated-loop-subject-preserved g t c =
           record {
             left = pass.left;
             enough = omega (arith, pass.enough, c.in_ok-take_step.ensures.less, c.in_ok-replaced.ensures.falls, c.in_ok-value.ensures.falls);
-            leads = pass_goes _ pass.left rs u (plain c.in_ok-value.value) _ _ c.same.result c.same.ensures c.if-same.false (leads_in _ _ _ _ _ _ _ _ on refl v.0);
+            leads = again_goes _ pass.left rs u (plain c.in_ok-value.value) _ _ c.same.result c.same.ensures c.if-same.false (leads_in _ _ _ _ _ _ _ _ on refl v.0);
           };
       sound = v.0.sound (parts.sound (step.sound s.invariant.sound));
       rules = rules_later v.0 _ (rules_later parts _ (rules_later step _ s.invariant.rules));
@@ -1711,7 +1728,7 @@ replace_row-returns-in_default-found-clause-played g t c =
     let is = read_is c.in_ok-rules.field-0 c.in-Some-2.rules _ c.in-Some-2.is c.in_ok-rules.ensures.rules in
     let same = ap (map plain_rule) c.as_slice.ensures.value in
     let h = subst (λ zs. Played found_tree (matching.trial zs (plain e)) c.args.self.now (Ok c.in_ok-found.found) c.first_result.new.self) same c.in_ok-found.ensures.played in
-    let none = none_is rs (plain e) _ _ c.in_ok-found.found h c.in_default-found.not-Some in
+    let none = trial_none rs (plain e) _ _ c.in_ok-found.found h c.in_default-found.not-Some in
     let honest = later none _ (pair_honest c.args.self.now c.args.args.now e r c.in-Some.ensures c.requires.args).0 in
     subst (λ z. Played found_tree (sized_row (match_rows.replace_row (trees c.args.args.now))) c.args.self.now (Ok (Some z)) c.first_result.new.self) (sym c.in_ok-copy.ensures)
     (pair_row found_tree match_rows.replace_row c.args.args.now e r _ _ _ c.in-Some.ensures
@@ -1827,8 +1844,8 @@ answer-questions-preserved g t c =
     let a = after (stand q.cursor) (told_by q.reply) in
     let s = stand c.asked.new.cursor in
     let o = c.in_ok-outcome.ensures in
-    let led = λ (row : Asks) (e : stand c.args.first ≡ starts row). subst (λ z. Leads (played x None row) k0 (played x (set_aside x q.taken) a) z) (sym same) (q.invariant.leads row e) in
-    let goes = λ (row : Asks) (e : stand c.args.first ≡ starts row). subst (λ z. Comes x row k0 s (Ok z) k2 c.reply.new.taken) c.in-Goes.is (o.played row k0 a s (led row e) c.in_ok-ask.ensures.posed c.catches.ensures) in
+    let led = λ (row : Row) (e : stand c.args.first ≡ starts row). subst (λ z. Leads (played x None row) k0 (played x (set_aside x q.taken) a) z) (sym same) (q.invariant.leads row e) in
+    let goes = λ (row : Row) (e : stand c.args.first ≡ starts row). subst (λ z. Comes x row k0 s (Ok z) k2 c.reply.new.taken) c.in-Goes.is (o.played row k0 a s (led row e) c.in_ok-ask.ensures.posed c.catches.ensures) in
     let first = starts_row (stand c.args.first) c.requires.awaits in
     let one = goes first.0 first.1 in
     let there = o.ready refl in
@@ -2131,7 +2148,7 @@ module_row-initials-requires g t c κs within = (search rules, (within, (c.requi
 pub module_row-returns-in_err-locals-clause-played : goal.module_row-returns-in_err-locals-clause-played
 module_row-returns-in_err-locals-clause-played g t c =
     row_at _ _ c.args.self.now c.from_residual.result c.initials.new.self (module_row-on (trees c.args.args.now) ∙ ap module_on (sym c.in-Some.ensures.read))
-    (row_exit local_names.local_list _ _ _ _ _ _ c.from_residual.ensures.1 c.in_err-locals.ensures.played)
+    (scope_exit local_names.local_list _ _ _ _ _ _ c.from_residual.ensures.1 c.in_err-locals.ensures.played)
 
 pub module_row-returns-clause-played : goal.module_row-returns-clause-played
 module_row-returns-clause-played g t c =
@@ -2166,7 +2183,7 @@ with_row-initials-requires g t c κs within = (search rules, (within, (c.require
 pub with_row-returns-in_err-locals-clause-played : goal.with_row-returns-in_err-locals-clause-played
 with_row-returns-in_err-locals-clause-played g t c =
     row_at _ _ c.args.self.now c.from_residual.result c.initials.new.self (with_row-on (trees c.args.args.now) ∙ ap with_on (sym c.in-Some.ensures.read))
-    (row_exit local_names.local_list _ _ _ _ _ _ c.from_residual.ensures.1 c.in_err-locals.ensures.played)
+    (scope_exit local_names.local_list _ _ _ _ _ _ c.from_residual.ensures.1 c.in_err-locals.ensures.played)
 
 pub with_row-returns-clause-played : goal.with_row-returns-clause-played
 with_row-returns-clause-played g t c =
@@ -2187,7 +2204,7 @@ block_row-initials-requires g t c κs within = (search rules, (within, (c.requir
 pub block_row-returns-in_err-locals-clause-played : goal.block_row-returns-in_err-locals-clause-played
 block_row-returns-in_err-locals-clause-played g t c =
     row_at _ _ c.args.self.now c.from_residual.result c.initials.new.self (block_row-on (trees c.args.args.now) ∙ ap block_on (sym c.in-Some.ensures.read))
-    (row_exit local_names.local_list _ _ _ _ _ _ c.from_residual.ensures.1 c.in_err-locals.ensures.played)
+    (scope_exit local_names.local_list _ _ _ _ _ _ c.from_residual.ensures.1 c.in_err-locals.ensures.played)
 
 -- ---- guards
 
@@ -2379,3 +2396,584 @@ rule_result-returns-then-not-same-clause-played g t c =
     let fs = c.as_slice.result.now in
     let m = missed_so f.0 (plain r.left) u fs c.matches_itself.result c.same.result c.matches_itself.ensures c.if-matches_itself.true c.same.ensures c.if-not-same.true (c.as_slice.ensures.value ∙ f.2) in
     rule_missed (plain r.body) (plain r.left) u fs f.0 f.1 m _ c.in_ok-take_step.ensures.played.0
+
+-- ---- left sides
+
+pub evaluated_core-returns-in_default-clause-played : goal.evaluated_core-returns-in_default-clause-played
+evaluated_core-returns-in_default-clause-played g t c =
+    leaf_core c.args.core.now c.in_ok-copy.field-0 c.args.self.now (no_node _ _ _ c.view.ensures.all c.in_default.not-Node) c.in_ok-copy.ensures c.requires.honest
+
+pub evaluated_core-evaluated_core-requires : goal.evaluated_core-evaluated_core-requires
+evaluated_core-evaluated_core-requires g t c κs within =
+    let d = head_depth (plain c.in-Node.head.now) (plain c.args.core.now) c.in-Node.args.now c.in-Node.ensures.plain in
+    (omega (arith, d), (within, (c.requires.sound, head_honest c.args.self.now.store _ _ _ _ c.in-Node.ensures.all c.requires.honest)))
+
+pub evaluated_core-returns-in_err-made-clause-played : goal.evaluated_core-returns-in_err-made-clause-played
+evaluated_core-returns-in_err-made-clause-played g t c =
+    node_core (plain c.in-Node.head.now) (plain c.args.core.now) c.in-Node.args.now c.in-Node.ensures.plain (made_stop honest_tree _ _ _ _ _ _ c.from_residual-in_err-made.ensures.1 c.in_err-made.ensures.played)
+
+pub evaluated_core-attributes_of_made-requires : goal.evaluated_core-attributes_of_made-requires
+evaluated_core-attributes_of_made-requires g t c = record { sound = c.in_ok-made.ensures.played.1.0.sound c.requires.sound }
+
+pub evaluated_core-elements-requires : goal.evaluated_core-elements-requires
+evaluated_core-elements-requires g t c κs within =
+    let m = c.in_ok-made.ensures.played in
+    let w = c.in_ok-attributes.ensures.played m.0 m.1.1.0 in
+    (omega (arith, c.in_ok-made.ensures.falls, c.in_ok-attributes.ensures.kept), (within, (w.sound (m.1.0.sound c.requires.sound), all_later w _ (all_later m.1.0 _ (args_honest c.args.self.now.store _ _ _ _ c.in-Node.ensures.all c.requires.honest)))))
+
+pub evaluated_core-returns-in_err-values-clause-played : goal.evaluated_core-returns-in_err-values-clause-played
+evaluated_core-returns-in_err-values-clause-played g t c =
+    let m = c.in_ok-made.ensures.played in
+    let w = c.in_ok-attributes.ensures.played m.0 m.1.1.0 in
+    node_core (plain c.in-Node.head.now) (plain c.args.core.now) c.in-Node.args.now c.in-Node.ensures.plain
+    (made_bind _ _ _ _ _ _ _ m.1.0 (made_bind _ _ _ _ _ _ _ w (made_stop (values c.in_ok-attributes.attributes) _ _ _ _ _ _ c.from_residual-in_err-values.ensures.1 c.in_err-values.ensures.played)))
+
+pub evaluated_core-returns-clause-played : goal.evaluated_core-returns-clause-played
+evaluated_core-returns-clause-played g t c =
+    let m = c.in_ok-made.ensures.played in
+    let a = c.in_ok-attributes.attributes in
+    let w = c.in_ok-attributes.ensures.played m.0 m.1.1.0 in
+    let x = c.in_ok-values.ensures.played in
+    let k = c.elements.new.self in
+    let made = c.in_ok-core_made.field-0 in
+    let stands = subst (λ zs. Stands (applied m.0 (without_sequences a (trees zs))) made) c.as_slice.ensures.value (c.in_ok-core_made.ensures.made m.0 m.1.1.0) in
+    let honest = c.in_ok-core_made.ensures.honest k.store (option_later x.0 _ (option_later w _ m.1.1.1)) (subst (AllHonest k) (sym c.as_slice.ensures.value) x.1.0) in
+    node_core (plain c.in-Node.head.now) (plain c.args.core.now) c.in-Node.args.now c.in-Node.ensures.plain
+    (made_bind _ _ _ _ _ _ _ m.1.0 (made_bind _ _ _ _ _ _ _ w (made_bind _ _ _ _ _ _ _ x.0 (made_done _ k made stands honest))))
+
+pub core_of-returns-then-held-found-clause-played : goal.core_of-returns-then-held-found-clause-played
+core_of-returns-then-held-found-clause-played g t c =
+    let k = c.args.self.now in
+    let l = c.args.left.now in
+    let e = c.in_ok-copy.field-0 in
+    held_made (plain l) e k (sym c.core-found.ensures.held ∙ c.if-held-found.true) (ap plain c.in_ok-copy.ensures ∙ c.core-found.ensures.core)
+    (subst (Honest k) (sym c.in_ok-copy.ensures) (passed_honest k.store l _ c.core-found.ensures.passed c.requires.honest))
+
+pub core_of-evaluated_core-requires : goal.core_of-evaluated_core-requires
+core_of-evaluated_core-requires g t c κs within =
+    (omega (arith, c.depth-depth.ensures.fits.shallow), (within, (c.requires.sound, passed_honest c.args.self.now.store c.args.left.now _ c.core-found.ensures.passed c.requires.honest)))
+
+pub core_of-returns-clause-played : goal.core_of-returns-clause-played
+core_of-returns-clause-played g t c =
+    open_made (plain c.args.left.now) (plain c.core-found.result.core.now) (sym c.core-found.ensures.held ∙ c.if-held-found.false) c.core-found.ensures.core c.evaluated_core.ensures.played
+
+pub prepared-returns-in_err-core-clause-played : goal.prepared-returns-in_err-core-clause-played
+prepared-returns-in_err-core-clause-played g t c =
+    prepared_stop (option_map (λ e. plain e.now) c.args.condition.entry) (plain c.args.left.now) c.args.self.now _ _ _ c.from_residual.ensures.1 c.in_err-core.ensures.played
+
+pub prepared-returns-in_err-left-clause-played : goal.prepared-returns-in_err-left-clause-played
+prepared-returns-in_err-left-clause-played g t c =
+    let o = option_map (λ e. plain e.now) c.args.condition.entry in
+    let l = plain c.args.left.now in
+    let m = c.in_ok-core.ensures.played in
+    unsized_stop o l c.args.self.now m.0 _ m.1.0 _ _ _ c.from_residual-in_err-left.ensures.1 (c.in_err-left.ensures.played (with_core (under o l) m.0) (c.put_back-made.ensures.made m.0 m.1.1.0))
+
+pub prepared-returns-clause-played : goal.prepared-returns-clause-played
+prepared-returns-clause-played g t c =
+    let o = option_map (λ e. plain e.now) c.args.condition.entry in
+    let l = c.args.left.now in
+    let k = c.args.self.now in
+    let k1 = c.core_of.new.self in
+    let m = c.in_ok-core.ensures.played in
+    let f = c.in_ok-left.ensures.played (with_core (under o (plain l)) m.0) (c.put_back-made.ensures.made m.0 m.1.1.0) in
+    let s = subst (Stands m.0) c.in-Some.is m.1.1.0 in
+    let h = made_is (Honest k1) _ c.in_ok-left.left c.in_ok-left.ensures.made (c.put_back-made.ensures.honest k1.store (later m.1.0 _ c.requires.left) (condition_later m.1.0 c.args.condition.entry c.requires.condition) m.1.1.1) in
+    (sides_given o (plain l) k m.0 k1 m.1.0 c.in_ok-left.left c.in-Some.core c.fitted.new.self f.0 f.1 s, later f.0 _ h)
+
+pub prepared-returns-clause-left : goal.prepared-returns-clause-left
+prepared-returns-clause-left g t c =
+    let o = option_map (λ e. plain e.now) c.args.condition.entry in
+    let l = plain c.args.left.now in
+    let m = c.in_ok-core.ensures.played in
+    let f = c.in_ok-left.ensures.played (with_core (under o l) m.0) (c.put_back-made.ensures.made m.0 m.1.1.0) in
+    f.1 ∙ ap (with_core (under o l)) (sym (subst (Stands m.0) c.in-Some.is m.1.1.0))
+
+-- ---- definitions
+
+pub define-prepared-requires : goal.define-prepared-requires
+define-prepared-requires g t c κs within = (search rules, (within, (c.requires.sound, (c.requires.left, c.moved.ensures.condition c.args.self.now.store c.requires.value))))
+
+pub define-returns-in_err-sides-clause-played : goal.define-returns-in_err-sides-clause-played
+define-returns-in_err-sides-clause-played g t c =
+    let l = plain c.args.left.now in
+    let v = plain c.args.value.now in
+    subst (λ p. Played itself p c.args.self.now c.from_residual.result c.prepared.new.self) (sym (define_sides c.args.immediate l v _ (c.moved.ensures.moved l)))
+    (exit prepared_side itself _ _ _ _ _ _ c.from_residual.ensures.1 c.in_err-sides.ensures.played)
+
+pub define-define_target-requires : goal.define-define_target-requires
+define-define_target-requires g t c =
+    let m = c.in_ok-sides.ensures.played in
+    record {
+      sound = m.0.sound c.requires.sound;
+      left = m.1;
+      body = later m.0 _ (c.moved.ensures.body c.args.self.now.store c.requires.value);
+      unmoved = λ x e. c.moved.ensures.stays (no_condition _ _ _ _ _ x c.in_ok-sides.ensures.left e);
+    }
+
+pub define-returns-clause-played : goal.define-returns-clause-played
+define-returns-clause-played g t c =
+    let l = plain c.args.left.now in
+    let v = plain c.args.value.now in
+    (subst (λ p. Plays p c.args.self.now (Ok c.in_ok-define_target.field-0) c.define_target.new.self false) (sym (define_sides c.args.immediate l v _ (c.moved.ensures.moved l)))
+    (plays_bind _ _ c.in_ok-sides.ensures.played.0 c.in_ok-define_target.ensures.played), tt)
+
+pub define_up-prepared-requires : goal.define_up-prepared-requires
+define_up-prepared-requires g t c κs within = (search rules, (within, (c.requires.sound, (c.requires.left, c.moved.ensures.condition c.args.self.now.store c.requires.value))))
+
+pub define_up-returns-in_err-sides-clause-played : goal.define_up-returns-in_err-sides-clause-played
+define_up-returns-in_err-sides-clause-played g t c =
+    let l = plain c.args.left.now in
+    let v = plain c.args.value.now in
+    subst (λ p. Played itself p c.args.self.now c.from_residual.result c.prepared.new.self) (sym (define_up_sides l v _ (c.moved.ensures.moved l)))
+    (exit prepared_side itself _ _ _ _ _ _ c.from_residual.ensures.1 c.in_err-sides.ensures.played)
+
+pub define_up-define_up_target-requires : goal.define_up-define_up_target-requires
+define_up-define_up_target-requires g t c =
+    let m = c.in_ok-sides.ensures.played in
+    record { sound = m.0.sound c.requires.sound; left = m.1; body = later m.0 _ (c.moved.ensures.body c.args.self.now.store c.requires.value) }
+
+pub define_up-returns-clause-played : goal.define_up-returns-clause-played
+define_up-returns-clause-played g t c =
+    let l = plain c.args.left.now in
+    let v = plain c.args.value.now in
+    (subst (λ p. Plays p c.args.self.now (Ok c.in_ok-define_up_target.field-0) c.define_up_target.new.self false) (sym (define_up_sides l v _ (c.moved.ensures.moved l)))
+    (plays_bind _ _ c.in_ok-sides.ensures.played.0 c.in_ok-define_up_target.ensures.played), tt)
+
+pub define_tagged-prepared-requires : goal.define_tagged-prepared-requires
+define_tagged-prepared-requires g t c κs within = (search rules, (within, (c.requires.sound, (c.requires.left, c.moved.ensures.condition c.args.self.now.store c.requires.value))))
+
+pub define_tagged-returns-in_err-sides-clause-played : goal.define_tagged-returns-in_err-sides-clause-played
+define_tagged-returns-in_err-sides-clause-played g t c =
+    let l = plain c.args.left.now in
+    let v = plain c.args.value.now in
+    subst (λ p. Played itself p c.args.self.now c.from_residual.result c.prepared.new.self) (sym (define_tagged_sides c.args.name.now l v _ (c.moved.ensures.moved l)))
+    (exit prepared_side itself _ _ _ _ _ _ c.from_residual.ensures.1 c.in_err-sides.ensures.played)
+
+pub define_tagged-define_tagged_by-requires : goal.define_tagged-define_tagged_by-requires
+define_tagged-define_tagged_by-requires g t c =
+    let m = c.in_ok-sides.ensures.played in
+    record { sound = m.0.sound c.requires.sound; name = c.requires.name; left = m.1; body = later m.0 _ (c.moved.ensures.body c.args.self.now.store c.requires.value) }
+
+pub define_tagged-returns-clause-played : goal.define_tagged-returns-clause-played
+define_tagged-returns-clause-played g t c =
+    let l = plain c.args.left.now in
+    let v = plain c.args.value.now in
+    (subst (λ p. Plays p c.args.self.now (Ok c.in_ok-define_tagged_by.field-0) c.define_tagged_by.new.self false) (sym (define_tagged_sides c.args.name.now l v _ (c.moved.ensures.moved l)))
+    (plays_bind _ _ c.in_ok-sides.ensures.played.0 c.in_ok-define_tagged_by.ensures.played), tt)
+
+-- ---- the rows that define
+
+pub set_row-returns-in_default-clause-played : goal.set_row-returns-in_default-clause-played
+set_row-returns-in_default-clause-played g t c = row_stays _ _ (set_row-by (trees c.args.args.now) ∙ ap (by set_both) (sym c.in_default.ensures.value))
+
+pub set_row-set-requires : goal.set_row-set-requires
+set_row-set-requires g t c κs within =
+    (omega (arith, c.depth-depth.ensures.fits.shallow), (within, (c.requires.sound, c.in-Some.ensures.honest c.args.self.now.store c.requires.args)))
+
+pub set_row-returns-in_err-set-clause-played : goal.set_row-returns-in_err-set-clause-played
+set_row-returns-in_err-set-clause-played g t c =
+    read_some set_both _ _ (set_row-by (trees c.args.args.now)) c.args.self.now _ _ _ (sym c.in-Some.ensures.value) (row_exit itself _ _ _ _ _ _ c.from_residual.ensures.1 c.in_err-set.ensures.played)
+
+pub set_row-returns-clause-played : goal.set_row-returns-clause-played
+set_row-returns-clause-played g t c =
+    let k = c.args.self.now in
+    let es = trees c.args.args.now in
+    let v = c.in-Some.value.now in
+    let h = c.in_ok-set.ensures.played.0 in
+    subst (λ z. Played found_tree (sized_row (definitions.set_row es)) k (Ok (Some z)) c.set.new.self) (sym c.in_ok-copy.ensures)
+    (read_some set_both _ _ (set_row-by es) k _ (Ok (Some v)) _ (sym c.in-Some.ensures.value) (row_gives _ _ _ v (plays_bind _ _ h plays_done) ((fits_decides (plain v)).1 c.weight-weight.ensures.fits) (later h _ (c.in-Some.ensures.honest k.store c.requires.args).1)))
+
+pub set_delayed_row-returns-in_default-clause-played : goal.set_delayed_row-returns-in_default-clause-played
+set_delayed_row-returns-in_default-clause-played g t c = row_stays _ _ (set_delayed_row-by (trees c.args.args.now) ∙ ap (by delay_both) (sym c.in_default.ensures.value))
+
+pub set_delayed_row-define-requires : goal.set_delayed_row-define-requires
+set_delayed_row-define-requires g t c κs within = (search rules, (within, (c.requires.sound, c.in-Some.ensures.honest c.args.self.now.store c.requires.args)))
+
+pub set_delayed_row-returns-in_err-is_refused-clause-played : goal.set_delayed_row-returns-in_err-is_refused-clause-played
+set_delayed_row-returns-in_err-is_refused-clause-played g t c =
+    read_some delay_both _ _ (set_delayed_row-by (trees c.args.args.now)) c.args.self.now _ _ _ (sym c.in-Some.ensures.value) (row_exit itself _ _ _ _ _ _ c.from_residual.ensures.1 c.in_err-is_refused.ensures.played)
+
+pub set_delayed_row-returns-clause-played : goal.set_delayed_row-returns-clause-played
+set_delayed_row-returns-clause-played g t c =
+    read_some delay_both _ _ (set_delayed_row-by (trees c.args.args.now)) c.args.self.now _ _ _ (sym c.in-Some.ensures.value) (row_refusal _ c.in_ok-is_refused.is_refused _ _ c.in_ok-refusal.field-0 c.in_ok-refusal.ensures c.in_ok-is_refused.ensures.played.0)
+
+pub unset_row-returns-in_default-clause-played : goal.unset_row-returns-in_default-clause-played
+unset_row-returns-in_default-clause-played g t c = row_stays _ _ (unset_row-by (trees c.args.args.now) ∙ ap (by unset_one) (sym c.in_default.ensures.value))
+
+pub unset_row-prepared-requires : goal.unset_row-prepared-requires
+unset_row-prepared-requires g t c κs within = (search rules, (within, (c.requires.sound, (c.in-Some.ensures.honest c.args.self.now.store c.requires.args, tt))))
+
+pub unset_row-returns-in_err-sides-clause-played : goal.unset_row-returns-in_err-sides-clause-played
+unset_row-returns-in_err-sides-clause-played g t c =
+    read_some unset_one _ _ (unset_row-by (trees c.args.args.now)) c.args.self.now _ _ _ (sym c.in-Some.ensures.value) (row_exit prepared_side _ _ _ _ _ _ c.from_residual.ensures.1 c.in_err-sides.ensures.played)
+
+pub unset_row-unset_target-requires : goal.unset_row-unset_target-requires
+unset_row-unset_target-requires g t c = record { sound = c.in_ok-sides.ensures.played.0.sound c.requires.sound }
+
+pub unset_row-returns-clause-played : goal.unset_row-returns-clause-played
+unset_row-returns-clause-played g t c =
+    read_some unset_one _ _ (unset_row-by (trees c.args.args.now)) c.args.self.now _ _ _ (sym c.in-Some.ensures.value)
+    (row_taken _ c.in_ok-is_taken.is_taken _ _ c.in_ok-refusal.field-0 c.in_ok-refusal.ensures (plays_bind _ _ c.in_ok-sides.ensures.played.0 c.in_ok-is_taken.ensures.played))
+
+-- ---- the rows that define by tags
+
+pub up_set_row-returns-in_default-clause-played : goal.up_set_row-returns-in_default-clause-played
+up_set_row-returns-in_default-clause-played g t c = row_stays _ _ (up_set_row-by (trees c.args.args.now) ∙ ap (by up_both) (sym c.in_default.ensures.value))
+
+pub up_set_row-define_up-requires : goal.up_set_row-define_up-requires
+up_set_row-define_up-requires g t c κs within = (search rules, (within, (c.requires.sound, c.in-Some.ensures.honest c.args.self.now.store c.requires.args)))
+
+pub up_set_row-returns-in_err-_refused-clause-played : goal.up_set_row-returns-in_err-_refused-clause-played
+up_set_row-returns-in_err-_refused-clause-played g t c =
+    read_some up_both _ _ (up_set_row-by (trees c.args.args.now)) c.args.self.now _ _ _ (sym c.in-Some.ensures.value) (row_exit itself _ _ _ _ _ _ c.from_residual.ensures.1 c.in_err-_refused.ensures.played)
+
+pub up_set_row-returns-clause-played : goal.up_set_row-returns-clause-played
+up_set_row-returns-clause-played g t c =
+    let k = c.args.self.now in
+    let es = trees c.args.args.now in
+    let v = c.in-Some.value.now in
+    let h = c.in_ok-_refused.ensures.played.0 in
+    subst (λ z. Played found_tree (sized_row (definitions.up_set_row es)) k (Ok (Some z)) c.define_up.new.self) (sym c.in_ok-copy.ensures)
+    (read_some up_both _ _ (up_set_row-by es) k _ (Ok (Some v)) _ (sym c.in-Some.ensures.value) (row_gives _ _ _ v (plays_bind _ _ h plays_done) ((fits_decides (plain v)).1 c.weight-weight.ensures.fits) (later h _ (c.in-Some.ensures.honest k.store c.requires.args).1)))
+
+pub up_set_delayed_row-returns-in_default-clause-played : goal.up_set_delayed_row-returns-in_default-clause-played
+up_set_delayed_row-returns-in_default-clause-played g t c = row_stays _ _ (up_set_delayed_row-by (trees c.args.args.now) ∙ ap (by up_delay_both) (sym c.in_default.ensures.value))
+
+pub up_set_delayed_row-define_up-requires : goal.up_set_delayed_row-define_up-requires
+up_set_delayed_row-define_up-requires g t c κs within = (search rules, (within, (c.requires.sound, c.in-Some.ensures.honest c.args.self.now.store c.requires.args)))
+
+pub up_set_delayed_row-returns-in_err-is_refused-clause-played : goal.up_set_delayed_row-returns-in_err-is_refused-clause-played
+up_set_delayed_row-returns-in_err-is_refused-clause-played g t c =
+    read_some up_delay_both _ _ (up_set_delayed_row-by (trees c.args.args.now)) c.args.self.now _ _ _ (sym c.in-Some.ensures.value) (row_exit itself _ _ _ _ _ _ c.from_residual.ensures.1 c.in_err-is_refused.ensures.played)
+
+pub up_set_delayed_row-returns-clause-played : goal.up_set_delayed_row-returns-clause-played
+up_set_delayed_row-returns-clause-played g t c =
+    read_some up_delay_both _ _ (up_set_delayed_row-by (trees c.args.args.now)) c.args.self.now _ _ _ (sym c.in-Some.ensures.value) (row_refusal _ c.in_ok-is_refused.is_refused _ _ c.in_ok-refusal.field-0 c.in_ok-refusal.ensures c.in_ok-is_refused.ensures.played.0)
+
+pub tag_set_row-returns-in_default-clause-played : goal.tag_set_row-returns-in_default-clause-played
+tag_set_row-returns-in_default-clause-played g t c = row_stays _ _ (tag_set_row-by (trees c.args.args.now) ∙ ap (by tag_three) (sym c.in_default.ensures.value))
+
+pub tag_set_row-value_of-requires : goal.tag_set_row-value_of-requires
+tag_set_row-value_of-requires g t c κs within = (search rules, (within, (c.requires.sound, (c.in-Some.ensures.honest c.args.self.now.store c.requires.args).1)))
+
+pub tag_set_row-returns-in_err-value-clause-played : goal.tag_set_row-returns-in_err-value-clause-played
+tag_set_row-returns-in_err-value-clause-played g t c =
+    read_some tag_three _ _ (tag_set_row-by (trees c.args.args.now)) c.args.self.now _ _ _ (sym c.in-Some.ensures.value) (row_exit value _ _ _ _ _ _ c.from_residual.ensures.1 c.in_err-value.ensures.played)
+
+pub tag_set_row-define_tagged-requires : goal.tag_set_row-define_tagged-requires
+tag_set_row-define_tagged-requires g t c κs within =
+    let h = c.in-Some.ensures.honest c.args.self.now.store c.requires.args in
+    let v = c.in_ok-value.ensures.played in
+    (search rules, (within, (v.0.sound c.requires.sound, (c.in-Some.ensures.name, (later v.0 _ h.0, v.1.0)))))
+
+pub tag_set_row-returns-in_err-_refused-clause-played : goal.tag_set_row-returns-in_err-_refused-clause-played
+tag_set_row-returns-in_err-_refused-clause-played g t c =
+    read_some tag_three _ _ (tag_set_row-by (trees c.args.args.now)) c.args.self.now _ _ _ (sym c.in-Some.ensures.value)
+    (exit found_tree found_tree _ _ _ _ _ _ c.from_residual-in_err-_refused.ensures.1 (played_bind found_tree _ _ _ _ _ _ _ c.in_ok-value.ensures.played.0 (played_stop itself found_tree _ _ _ _ _ c.in_err-_refused.ensures.played)))
+
+pub tag_set_row-returns-clause-played : goal.tag_set_row-returns-clause-played
+tag_set_row-returns-clause-played g t c =
+    let v = c.in_ok-value.ensures.played in
+    let e = c.in_ok-value.value in
+    let h = c.in_ok-_refused.ensures.played.0 in
+    read_some tag_three _ _ (tag_set_row-by (trees c.args.args.now)) c.args.self.now _ _ _ (sym c.in-Some.ensures.value)
+    (row_gives _ _ _ e (plays_bind _ _ v.0 (plays_bind _ _ h plays_done)) ((fits_decides (plain e)).1 c.weight-weight.ensures.fits) (later h _ v.1.0))
+
+pub tag_set_delayed_row-returns-in_default-clause-played : goal.tag_set_delayed_row-returns-in_default-clause-played
+tag_set_delayed_row-returns-in_default-clause-played g t c = row_stays _ _ (tag_set_delayed_row-by (trees c.args.args.now) ∙ ap (by tag_delay_three) (sym c.in_default.ensures.value))
+
+pub tag_set_delayed_row-define_tagged-requires : goal.tag_set_delayed_row-define_tagged-requires
+tag_set_delayed_row-define_tagged-requires g t c κs within =
+    (search rules, (within, (c.requires.sound, (c.in-Some.ensures.name, c.in-Some.ensures.honest c.args.self.now.store c.requires.args))))
+
+pub tag_set_delayed_row-returns-in_err-is_refused-clause-played : goal.tag_set_delayed_row-returns-in_err-is_refused-clause-played
+tag_set_delayed_row-returns-in_err-is_refused-clause-played g t c =
+    read_some tag_delay_three _ _ (tag_set_delayed_row-by (trees c.args.args.now)) c.args.self.now _ _ _ (sym c.in-Some.ensures.value) (row_exit itself _ _ _ _ _ _ c.from_residual.ensures.1 c.in_err-is_refused.ensures.played)
+
+pub tag_set_delayed_row-returns-clause-played : goal.tag_set_delayed_row-returns-clause-played
+tag_set_delayed_row-returns-clause-played g t c =
+    read_some tag_delay_three _ _ (tag_set_delayed_row-by (trees c.args.args.now)) c.args.self.now _ _ _ (sym c.in-Some.ensures.value) (row_refusal _ c.in_ok-is_refused.is_refused _ _ c.in_ok-refusal.field-0 c.in_ok-refusal.ensures c.in_ok-is_refused.ensures.played.0)
+
+pub tag_unset_row-returns-in_default-clause-played : goal.tag_unset_row-returns-in_default-clause-played
+tag_unset_row-returns-in_default-clause-played g t c = row_stays _ _ (tag_unset_row-by (trees c.args.args.now) ∙ ap (by tag_unset) (sym c.in_default.ensures.value))
+
+pub tag_unset_row-prepared-requires : goal.tag_unset_row-prepared-requires
+tag_unset_row-prepared-requires g t c κs within = (search rules, (within, (c.requires.sound, (c.in-Some.ensures.honest c.args.self.now.store c.requires.args, tt))))
+
+pub tag_unset_row-returns-in_err-sides-clause-played : goal.tag_unset_row-returns-in_err-sides-clause-played
+tag_unset_row-returns-in_err-sides-clause-played g t c =
+    read_some tag_unset _ _ (tag_unset_row-by (trees c.args.args.now)) c.args.self.now _ _ _ (sym c.in-Some.ensures.value) (row_exit prepared_side _ _ _ _ _ _ c.from_residual.ensures.1 c.in_err-sides.ensures.played)
+
+pub tag_unset_row-unset_tagged-requires : goal.tag_unset_row-unset_tagged-requires
+tag_unset_row-unset_tagged-requires g t c = record { sound = c.in_ok-sides.ensures.played.0.sound c.requires.sound; name = c.in-Some.ensures.name }
+
+pub tag_unset_row-returns-clause-played : goal.tag_unset_row-returns-clause-played
+tag_unset_row-returns-clause-played g t c =
+    read_some tag_unset _ _ (tag_unset_row-by (trees c.args.args.now)) c.args.self.now _ _ _ (sym c.in-Some.ensures.value)
+    (row_taken _ c.in_ok-is_taken.is_taken _ _ c.in_ok-refusal.field-0 c.in_ok-refusal.ensures (plays_bind _ _ c.in_ok-sides.ensures.played.0 c.in_ok-is_taken.ensures.played))
+
+-- ---- left sides that are set
+
+pub set_one-set_message-requires : goal.set_one-set_message-requires
+set_one-set_message-requires g t c = record { sound = c.requires.sound; name = c.in-Some.ensures.name; value = sym c.in-Text.ensures.plain }
+
+pub set_one-returns-in-Some-clause-played : goal.set_one-returns-in-Some-clause-played
+set_one-returns-in-Some-clause-played g t c =
+    let l = plain c.args.left.now in
+    let k = c.args.self.now in
+    let k1 = c.set_message.new.self in
+    (subst (λ v. Plays (set_one l v) k (Ok tt) k1 false) c.in-Text.ensures.plain (subst (λ p. Plays p k (Ok tt) k1 false) (sym (set_text l _ c.in-Text.text.now c.in-Some.ensures.value)) c.in_ok-set_message.ensures.played), tt)
+
+pub set-returns-in_default-clause-played : goal.set-returns-in_default-clause-played
+set-returns-in_default-clause-played g t c =
+    subst (λ p. Played itself p c.args.self.now c.set_one.result c.set_one.new.self) (sym (set_single (plain c.args.left.now) (plain c.args.value.now) c.in_default.ensures.value)) c.set_one.ensures.played
+
+pub set-returns-in_default-same_shape-clause-played : goal.set-returns-in_default-same_shape-clause-played
+set-returns-in_default-same_shape-clause-played g t c =
+    let l = plain c.args.left.now in
+    let v = plain c.args.value.now in
+    (subst (λ p. Plays p c.args.self.now (Ok tt) c.tell_shape.new.self false) (sym (set_shape l v c.in-Some.lefts.now None c.in-Some.ensures.value c.in_default-same_shape.ensures.value)) c.in_ok-tell_shape.ensures.played, tt)
+
+pub set-loop-i-init : goal.set-loop-i-init
+set-loop-i-init g t c =
+    let k = c.args.self.now in
+    let l = plain c.args.left.now in
+    let v = plain c.args.value.now in
+    let values = c.in-Some-2.values.now in
+    record {
+      leads = λ r k2 o h. subst (λ p. Plays p k r k2 o) (sym (set_shape l v c.in-Some.lefts.now (Some (trees values)) c.in-Some.ensures.value c.in-Some-2.ensures.value)) h;
+      sound = c.requires.sound;
+      lefts = c.in-Some.ensures.honest k.store c.requires.left;
+      values = c.in-Some-2.ensures.honest k.store c.requires.value;
+      falls = omega arith;
+    }
+
+pub set-set-requires : goal.set-set-requires
+set-set-requires g t c κs within =
+    let l = c.loop-i in
+    let lefts = c.in-Some.lefts.now in
+    let values = c.in-Some-2.values.now in
+    let x = c.index-lefts-i.result in
+    let d = element_depth lefts l.i x (omega arith) c.index-lefts-i.is in
+    let p = ap depths (plains_trees lefts) in
+    (
+      omega (arith, d, p, c.in-Some.ensures.falls, l.invariant.falls),
+      (within, (l.invariant.sound, (subst (Honest l.self) (sym c.index-lefts-i.is) (l.invariant.lefts l.i x (omega arith)), subst (Honest l.self) (sym c.index-values-i.is) (l.invariant.values l.i c.index-values-i.result (omega (arith, c.in-Some-2.ensures.count)))))),
+    )
+
+pub set-returns-in_err-set-clause-played : goal.set-returns-in_err-set-clause-played
+set-returns-in_err-set-clause-played g t c =
+    let l = c.loop-i in
+    leads_out itself itself _ _ _ _ _ _ _ _ _ l.invariant.leads
+    (set_at c.in-Some.lefts.now c.in-Some-2.values.now l.i c.index-lefts-i.result c.index-values-i.result (omega arith) c.in-Some-2.ensures.count c.index-lefts-i.is c.index-values-i.is) c.from_residual-in_err-set.ensures.1 c.in_err-set.ensures.played
+
+pub set-loop-i-preserved : goal.set-loop-i-preserved
+set-loop-i-preserved g t c =
+    let l = c.loop-i in
+    let h = c.in_ok-set.ensures.played.0 in
+    record {
+      leads = set_step c.in-Some.lefts.now c.in-Some-2.values.now l.i c.index-lefts-i.result c.index-values-i.result (omega arith) c.in-Some-2.ensures.count c.index-lefts-i.is c.index-values-i.is l.invariant.leads h;
+      sound = h.sound l.invariant.sound;
+      lefts = all_later h _ l.invariant.lefts;
+      values = all_later h _ l.invariant.values;
+      falls = omega (arith, c.in_ok-set.ensures.falls, l.invariant.falls);
+    }
+
+pub set-returns-clause-played : goal.set-returns-clause-played
+set-returns-clause-played g t c = (set_over c.in-Some.lefts.now c.in-Some-2.values.now c.loop-i.i (omega arith) c.loop-i.invariant.leads, tt)
+
+-- ---- rows that give a symbol a new value
+
+pub changing-returns-in_err-old-clause-played : goal.changing-returns-in_err-old-clause-played
+changing-returns-in_err-old-clause-played g t c =
+    let a = c.args in
+    changing_stop (λ o v. kept_value a.keeps_old o v) (λ o. updated a.update o (plain a.by.now)) (plain a.subject.now) a.self.now _ _ _ c.from_residual.ensures.1 c.in_err-old.ensures.played
+
+pub changing-returns-then-same-clause-played : goal.changing-returns-then-same-clause-played
+changing-returns-then-same-clause-played g t c =
+    let a = c.args in
+    let o = plain c.in_ok-old.old in
+    changing_none (λ o v. kept_value a.keeps_old o v) (λ o. updated a.update o (plain a.by.now)) (plain a.subject.now) a.self.now o _ c.in_ok-old.ensures.played.0 (sym (same_answer c.same.result o (plain a.subject.now) c.same.ensures) ∙ c.if-same.true)
+
+pub changing-value_of_built-requires : goal.changing-value_of_built-requires
+changing-value_of_built-requires g t c κs within =
+    let h = c.in_ok-old.ensures.played in
+    let s = c.value_of.new.self.store in
+    (search rules, (within, (h.0.sound c.requires.sound, c.of_made-assignment.ensures.honest s (later h.0 _ c.requires.subject) (c.updated-made.ensures.honest s h.1.0 (later h.0 _ c.requires.by)))))
+
+pub changing-returns-in_err-new-clause-played : goal.changing-returns-in_err-new-clause-played
+changing-returns-in_err-new-clause-played g t c =
+    let a = c.args in
+    let o = plain c.in_ok-old.old in
+    let s = sym (same_answer c.same.result o (plain a.subject.now) c.same.ensures) ∙ c.if-same.false in
+    new_stop (λ o v. kept_value a.keeps_old o v) (λ o. updated a.update o (plain a.by.now)) (plain a.subject.now) a.self.now o _ c.in_ok-old.ensures.played.0 _ _ _ c.from_residual-in_err-new.ensures.1 s
+    (c.in_err-new.ensures.played _ (c.of_made-assignment.ensures.made _ c.updated-made.ensures.made))
+
+pub changing-returns-clause-played : goal.changing-returns-clause-played
+changing-returns-clause-played g t c =
+    let a = c.args in
+    let old = c.in_ok-old.old in
+    let o = plain old in
+    let new = c.in_ok-new.new in
+    let h = c.in_ok-old.ensures.played in
+    let v = c.in_ok-new.ensures.played _ (c.of_made-assignment.ensures.made _ c.updated-made.ensures.made) in
+    let s = sym (same_answer c.same.result o (plain a.subject.now) c.same.ensures) ∙ c.if-same.false in
+    let e = c.chosen.result in
+    new_given (λ o v. kept_value a.keeps_old o v) (λ o. updated a.update o (plain a.by.now)) (plain a.subject.now) a.self.now o _ h.0 (plain new) e c.value_of_built.new.self s v.0
+    (chosen_is a.keeps_old old new e c.chosen.ensures.same) c.chosen.ensures.fits (chosen_honest c.value_of_built.new.self a.keeps_old old new e c.chosen.ensures.same (later v.0 _ h.1.0) v.1.0)
+
+pub update_row-returns-in_default-clause-played : goal.update_row-returns-in_default-clause-played
+update_row-returns-in_default-clause-played g t c =
+    let new = λ o v. updated c.args.update o v in
+    row_stays _ _ (changing_by-by new (trees c.args.args.now) ∙ ap (by (changed_both new)) (sym c.in_default.ensures.value))
+
+pub update_row-changing-requires : goal.update_row-changing-requires
+update_row-changing-requires g t c κs within = (search rules, (within, (c.requires.sound, c.in-Some.ensures.honest c.args.self.now.store c.requires.args)))
+
+pub update_row-returns-clause-played : goal.update_row-returns-clause-played
+update_row-returns-clause-played g t c =
+    let new = λ o v. updated c.args.update o v in
+    read_some (changed_both new) _ _ (changing_by-by new (trees c.args.args.now)) c.args.self.now _ _ _ (sym c.in-Some.ensures.value) c.changing.ensures.played
+
+pub step_row-returns-in_default-clause-played : goal.step_row-returns-in_default-clause-played
+step_row-returns-in_default-clause-played g t c =
+    let keep = λ o v. kept_value c.args.keeps_old o v in
+    let v = one c.args.is_negative in
+    row_stays _ _ (stepping-by keep v (trees c.args.args.now) ∙ ap (by (λ x. definitions.changing keep (λ o. definitions.plus o v) x)) (sym c.in_default.ensures.value))
+
+pub step_row-changing-requires : goal.step_row-changing-requires
+step_row-changing-requires g t c κs within =
+    let s = c.args.self.now.store in
+    (search rules, (within, (c.requires.sound, (c.in-Some.ensures.honest s c.requires.args, c.in_ok-by.ensures.honest s))))
+
+pub step_row-returns-clause-played : goal.step_row-returns-clause-played
+step_row-returns-clause-played g t c =
+    let keep = λ o v. kept_value c.args.keeps_old o v in
+    let v = one c.args.is_negative in
+    read_some (λ x. definitions.changing keep (λ o. definitions.plus o v) x) _ _ (stepping-by keep v (trees c.args.args.now)) c.args.self.now _ _ _ (sym c.in-Some.ensures.value)
+    (subst (λ z. Played found_tree (sized_row (definitions.changing keep (λ o. definitions.plus o z) (plain c.in-Some.subject.now))) c.args.self.now c.changing.result c.changing.new.self) c.in_ok-by.ensures.value c.changing.ensures.played)
+
+-- ---- the rest of the rows of matches
+
+pub match_row-returns-in_default-clause-played : goal.match_row-returns-in_default-clause-played
+match_row-returns-in_default-clause-played g t c = pair_stays match_rows.match_row c.args.args.now c.args.self.now c.in_default.ensures refl (λ x. refl) (λ x y z ts. refl)
+
+pub match_row-matches-requires : goal.match_row-matches-requires
+match_row-matches-requires g t c κs within =
+    let h = pair_honest c.args.self.now c.args.args.now c.in-Some.e.now c.in-Some.p.now c.in-Some.ensures c.requires.args in
+    (search rules, (within, (c.requires.sound, (h.1, h.0))))
+
+pub match_row-returns-clause-played : goal.match_row-returns-clause-played
+match_row-returns-clause-played g t c =
+    let h = (c.in_ok-found.ensures.played (2 ^ 64) (omega arith)).0 in
+    pair_row found_tree match_rows.match_row c.args.args.now c.in-Some.e.now c.in-Some.p.now _ _ _ c.in-Some.ensures (row_truth _ (λ b. b) _ _ c.in_ok-found.found c.in_ok-truth.field-0 h c.in_ok-truth.ensures)
+
+pub member_row-returns-in_default-clause-played : goal.member_row-returns-in_default-clause-played
+member_row-returns-in_default-clause-played g t c = pair_stays match_rows.member_row c.args.args.now c.args.self.now c.in_default.ensures refl (λ x. refl) (λ x y z ts. refl)
+
+pub member_row-returns-in_err-found-clause-played : goal.member_row-returns-in_err-found-clause-played
+member_row-returns-in_err-found-clause-played g t c =
+    let e = c.in-Some.e.now in
+    let p = c.in-Some.p.now in
+    let m = subst (λ ts. Played itself (match_rows.any_matches (plain p) ts) c.args.self.now (Err c.in_err-found.field-0.0) c.any_matches.new.self) c.elements.ensures.value c.in_err-found.ensures.played in
+    pair_row found_tree match_rows.member_row c.args.args.now e p _ _ _ c.in-Some.ensures (row_exit itself _ _ _ _ _ _ c.from_residual.ensures.1 m)
+
+pub member_row-returns-clause-played : goal.member_row-returns-clause-played
+member_row-returns-clause-played g t c =
+    let e = c.in-Some.e.now in
+    let p = c.in-Some.p.now in
+    let h = subst (λ ts. Plays (match_rows.any_matches (plain p) ts) c.args.self.now (Ok c.in_ok-found.found) c.any_matches.new.self false) c.elements.ensures.value c.in_ok-found.ensures.played.0 in
+    pair_row found_tree match_rows.member_row c.args.args.now e p _ _ _ c.in-Some.ensures (row_truth _ (λ b. b) _ _ c.in_ok-found.found c.in_ok-truth.field-0 h c.in_ok-truth.ensures)
+
+pub count_row-returns-in_default-clause-played : goal.count_row-returns-in_default-clause-played
+count_row-returns-in_default-clause-played g t c = pair_stays match_rows.count_row c.args.args.now c.args.self.now c.in_default.ensures refl (λ x. refl) (λ x y z ts. refl)
+
+pub count_row-returns-in_err-count-clause-played : goal.count_row-returns-in_err-count-clause-played
+count_row-returns-in_err-count-clause-played g t c =
+    let e = c.in-Some.e.now in
+    let p = c.in-Some.p.now in
+    let m = subst (λ ts. Played itself (match_rows.count_matching 0 (plain p) ts) c.args.self.now (Err c.in_err-count.field-0.0) c.count_matching.new.self) c.elements.ensures.value c.in_err-count.ensures.played in
+    pair_row found_tree match_rows.count_row c.args.args.now e p _ _ _ c.in-Some.ensures (row_exit itself _ _ _ _ _ _ c.from_residual.ensures.1 m)
+
+pub count_row-returns-clause-played : goal.count_row-returns-clause-played
+count_row-returns-clause-played g t c =
+    let e = c.in-Some.e.now in
+    let p = c.in-Some.p.now in
+    let h = subst (λ ts. Plays (match_rows.count_matching 0 (plain p) ts) c.args.self.now (Ok c.in_ok-count.count) c.count_matching.new.self false) c.elements.ensures.value c.in_ok-count.ensures.played.0 in
+    pair_row found_tree match_rows.count_row c.args.args.now e p _ _ _ c.in-Some.ensures (row_count _ _ _ c.in_ok-count.count c.in_ok-natural.field-0 h c.in_ok-natural.ensures)
+
+pub cases_row-returns-in_default-clause-played : goal.cases_row-returns-in_default-clause-played
+cases_row-returns-in_default-clause-played g t c = pair_stays match_rows.cases_row c.args.args.now c.args.self.now c.in_default.ensures refl (λ x. refl) (λ x y z ts. refl)
+
+pub delete_cases_row-returns-in_default-clause-played : goal.delete_cases_row-returns-in_default-clause-played
+delete_cases_row-returns-in_default-clause-played g t c = pair_stays match_rows.delete_cases_row c.args.args.now c.args.self.now c.in_default.ensures refl (λ x. refl) (λ x y z ts. refl)
+
+pub delete_cases_row-returns-in_default-view-clause-played : goal.delete_cases_row-returns-in_default-view-clause-played
+delete_cases_row-returns-in_default-view-clause-played g t c =
+    let k = c.args.self.now in
+    let e = c.in-Some.e.now in
+    let p = c.in-Some.p.now in
+    let h = pair_honest k c.args.args.now e p c.in-Some.ensures c.requires.args in
+    let q = delete_atom (plain e) (plain p) (no_node _ _ _ c.view.ensures.all c.in_default-view.not-Node) in
+    subst (λ z. Played found_tree (sized_row (match_rows.delete_cases_row (trees c.args.args.now))) k (Ok (Some z)) k) (sym c.in_ok-copy.ensures)
+    (pair_row found_tree match_rows.delete_cases_row c.args.args.now e p _ _ _ c.in-Some.ensures (row_at _ _ _ _ _ q (row_gives _ _ _ e plays_done ((fits_decides (plain e)).1 c.view.ensures.fits) h.0)))
+
+pub free_row-returns-in_default-clause-played : goal.free_row-returns-in_default-clause-played
+free_row-returns-in_default-clause-played g t c = pair_stays match_rows.free_row c.args.args.now c.args.self.now c.in_default.ensures refl (λ x. refl) (λ x y z ts. refl)
+
+pub free_row-any_part-requires : goal.free_row-any_part-requires
+free_row-any_part-requires g t c κs within =
+    let h = pair_honest c.args.self.now c.args.args.now c.in-Some.e.now c.in-Some.p.now c.in-Some.ensures c.requires.args in
+    (omega (arith, c.depth-depth.ensures.fits.shallow), (within, (c.requires.sound, (h.1, h.0))))
+
+pub free_row-returns-in_err-found-clause-played : goal.free_row-returns-in_err-found-clause-played
+free_row-returns-in_err-found-clause-played g t c =
+    pair_row found_tree match_rows.free_row c.args.args.now c.in-Some.e.now c.in-Some.p.now _ _ _ c.in-Some.ensures (row_exit itself _ _ _ _ _ _ c.from_residual.ensures.1 c.in_err-found.ensures.played)
+
+pub free_row-returns-clause-played : goal.free_row-returns-clause-played
+free_row-returns-clause-played g t c =
+    pair_row found_tree match_rows.free_row c.args.args.now c.in-Some.e.now c.in-Some.p.now _ _ _ c.in-Some.ensures (row_truth _ not _ _ c.in_ok-found.found c.in_ok-truth.field-0 c.in_ok-found.ensures.played.0 c.in_ok-truth.ensures)
+
+pub replace_row-returns-in_default-clause-played : goal.replace_row-returns-in_default-clause-played
+replace_row-returns-in_default-clause-played g t c = pair_stays match_rows.replace_row c.args.args.now c.args.self.now c.in_default.ensures refl (λ x. refl) (λ x y z ts. refl)
+
+pub replace_all_row-returns-in_default-clause-played : goal.replace_all_row-returns-in_default-clause-played
+replace_all_row-returns-in_default-clause-played g t c = pair_stays match_rows.replace_all_row c.args.args.now c.args.self.now c.in_default.ensures refl (λ x. refl) (λ x y z ts. refl)
+
+pub replace_repeated_row-returns-in_default-clause-played : goal.replace_repeated_row-returns-in_default-clause-played
+replace_repeated_row-returns-in_default-clause-played g t c = pair_stays match_rows.replace_repeated_row c.args.args.now c.args.self.now c.in_default.ensures refl (λ x. refl) (λ x y z ts. refl)
+
+pub replace_row-returns-in_err-found-clause-played : goal.replace_row-returns-in_err-found-clause-played
+replace_row-returns-in_err-found-clause-played g t c =
+    let e = c.in-Some.e.now in
+    let r = c.in-Some.r.now in
+    let rs = map plain_rule c.in-Some-2.rules.items in
+    let is = read_is c.in_ok-rules.field-0 c.in-Some-2.rules _ c.in-Some-2.is c.in_ok-rules.ensures.rules in
+    let same = ap (map plain_rule) c.as_slice.ensures.value in
+    let h = subst (λ zs. Played found_tree (matching.trial zs (plain e)) c.args.self.now (Err c.in_err-found.field-0.0) c.first_result.new.self) same c.in_err-found.ensures.played in
+    pair_row found_tree match_rows.replace_row c.args.args.now e r _ _ _ c.in-Some.ensures
+    (row_at _ _ _ _ _ (replace_is (plain e) (plain r) (Some rs) is) (row_exit found_tree _ _ _ _ _ _ c.from_residual-in_err-found.ensures.1 h))
+
+pub replace_row-returns-clause-played : goal.replace_row-returns-clause-played
+replace_row-returns-clause-played g t c =
+    let e = c.in-Some.e.now in
+    let r = c.in-Some.r.now in
+    let x = c.in-Some-found.result in
+    let rs = map plain_rule c.in-Some-2.rules.items in
+    let is = read_is c.in_ok-rules.field-0 c.in-Some-2.rules _ c.in-Some-2.is c.in_ok-rules.ensures.rules in
+    let same = ap (map plain_rule) c.as_slice.ensures.value in
+    let h = subst (λ zs. Played found_tree (matching.trial zs (plain e)) c.args.self.now (Ok c.in_ok-found.found) c.first_result.new.self) same c.in_ok-found.ensures.played in
+    let w = subst (λ o. Played found_tree (matching.trial rs (plain e)) c.args.self.now (Ok o) c.first_result.new.self) c.in-Some-found.is h in
+    pair_row found_tree match_rows.replace_row c.args.args.now e r _ _ _ c.in-Some.ensures
+    (row_at _ _ _ _ _ (replace_is (plain e) (plain r) (Some rs) is) (row_gives _ _ _ x (plays_bind (matching.trial rs (plain e)) _ w.0 plays_done) ((fits_decides (plain x)).1 c.weight-weight.ensures.fits) w.1))
+
+pub replace_all_row-returns-in_err-replaced-clause-played : goal.replace_all_row-returns-in_err-replaced-clause-played
+replace_all_row-returns-in_err-replaced-clause-played g t c =
+    let e = c.in-Some.e.now in
+    let r = c.in-Some.r.now in
+    let rs = map plain_rule c.in-Some-2.rules.items in
+    let is = read_is c.in_ok-rules.field-0 c.in-Some-2.rules _ c.in-Some-2.is c.in_ok-rules.ensures.rules in
+    let same = ap (map plain_rule) c.as_slice.ensures.value in
+    let h = subst (λ zs. Played (seen_replaced e) (replacing zs (plain e)) c.args.self.now (Err c.in_err-replaced.field-0.0) c.replace_all.new.self) same c.in_err-replaced.ensures.played in
+    pair_row found_tree match_rows.replace_all_row c.args.args.now e r _ _ _ c.in-Some.ensures
+    (row_at _ _ _ _ _ (replace_all_is (plain e) (plain r) (Some rs) is) (exit found_tree found_tree _ _ _ _ _ _ c.from_residual-in_err-replaced.ensures.1 (replacing_stops (seen_replaced e) found_tree rs (plain e) _ _ _ _ h)))
