@@ -20,6 +20,8 @@ use Rattle.wl_expr.specs.Passed.{IsFrom}
 use Rattle.wl_expr.specs.Stamped.{Stamped, plain}
 use Rattle.wl_expr.specs.Tree.{Tree}
 use Rattle.wl_expr.specs.Words.{Name, fits}
+use Rattle.wl_expr.specs.declared.fault.ExprFault.{ExprFault}
+use Rattle.wl_expr.specs.declared.fault.ExprFault.TheVariants as fault
 use Rattle.wl_eval.specs.State as spec
 use Rattle.wl_eval.specs.State.{State, End}
 use Rattle.wl_eval.specs.Prog as prog
@@ -32,7 +34,7 @@ use Rattle.wl_eval.specs.Honest.{Grows}
 use Rattle.wl_eval.specs.Local.{is_budget}
 use Rattle.wl_eval.specs.Parts.{sized_row}
 use Rattle.wl_eval.specs.Played as seen
-use Rattle.wl_eval.specs.Played.{Seen, Plays, Leads, Played, Ended, Honest, AllHonest, HonestMaybe, Sound, TooLarge, found_tree, itself}
+use Rattle.wl_eval.specs.Played.{Seen, Plays, Leads, Played, Ended, Honest, AllHonest, HonestMaybe, Sound, TooLarge, FaultStops, found_tree, itself}
 use Rattle.wl_eval.specs.Replies.{told_by, HonestReply, ReplyIsFrom, HonestAsk, Holds, IsBounded, IsCaught, Proceeds, caught_of, caught_reply, is_memory, stops_by_memory, set_aside, AreTaken, Ready, IsPosed, Finishes, Goes, Comes, IsRefused}
 use Rattle.wl_eval.specs.declared.ends.End as ends
 use Rattle.wl_eval.specs.declared.ends.End.TheVariants as end
@@ -157,27 +159,30 @@ caught_played t k k1 end.BudgetEnded r f h q = subst (λ z. Played caught_reply 
 caught_played t k k1 end.Broke r f h q = subst (λ z. Played caught_reply (end_of_built t) k z k1) (sym q) (plays_bind (sized t) _ (plays_fits t k f) (plays_bind (end_of t) _ h.0 (plays_now (Ok broke) k1)), (tt, refl))
 caught_played t k k1 end.Continued r f h q = subst (λ z. Played caught_reply (end_of_built t) k z k1) (sym q) (plays_bind (sized t) _ (plays_fits t k f) (plays_bind (end_of t) _ h.0 (plays_now (Ok continued) k1)), (tt, refl))
 
+abbrev goes_so : Option Name → Asks → Evaluator → Option Taken → Evaluator → Evaluator → Reply → Asks → Type 0
+goes_so x row k t k1 k2 r b = Leads (played x None row) k (played x (set_aside x t) b) k1 → Goes x row k (behind b) r k2 t
+
+abbrev stops_so : Option Name → Asks → Evaluator → Option Taken → Evaluator → Evaluator → Stop → Asks → Type 0
+stops_so x row k t k1 k2 d b = Leads (played x None row) k (played x (set_aside x t) b) k1 → Finishes x row k (Err d) k2 t
+
+abbrev ends_so : Option Name → Asks → Evaluator → Option Taken → Evaluator → Evaluator → Option Stamped → Asks → Type 0
+ends_so x row k t k1 k2 o b = Leads (played x None row) k (played x (set_aside x t) b) k1 → Finishes x row k (Ok o) k2 t
+
 -- from where the row has come to
 module _ (x : Option Name) (row : Asks) (k : Evaluator) (t : Option Taken) (a : Asks) (k1 : Evaluator) (l : Leads (played x None row) k (played x (set_aside x t) a) k1) {k2 : Evaluator} where
-  abbrev goes_so : Reply → Asks → Type 0
-  goes_so r b = Leads (played x None row) k (played x (set_aside x t) b) k1 → Goes x row k (behind b) r k2 t
-
-  abbrev stops_so : Stop → Asks → Type 0
-  stops_so d b = Leads (played x None row) k (played x (set_aside x t) b) k1 → Finishes x row k (Err d) k2 t
-
   pub value_goes : (u : Tree) (e : Stamped) → asked a ≡ Some (evaluate u) → ¬ Catches (behind a) → Played seen.tree (value_of_built u) k1 (Ok e) k2 → Goes x row k (behind a) (reply.Value e) k2 t
-  value_goes u e q n h = at_value (goes_so (reply.Value e)) a u q n (λ f m. record { leads = leads_on m (drive_eval x (set_aside x t) u f (plain e) h.0); awaited = tt; honest = h.1.0 }) l
+  value_goes u e q n h = at_value (goes_so x row k t k1 k2 (reply.Value e)) a u q n (λ f m. record { leads = leads_on m (drive_eval x (set_aside x t) u f (plain e) h.0); awaited = tt; honest = h.1.0 }) l
 
   pub value_stops : (u : Tree) (d : Stop) → asked a ≡ Some (evaluate u) → ¬ Catches (behind a) → Played seen.tree (value_of_built u) k1 (Err d) k2 → Finishes x row k (Err d) k2 t
   unfolding played
   value_stops u d q n h =
-      at_value (stops_so d) a u q n
+      at_value (stops_so x row k t k1 k2 d) a u q n
       (λ f m k3 g. row_stops (finished x row) k k3 d (finished_stops x row (value_of_built u) (λ r. elim r [ Ok w ↦ played x (set_aside x t) (f w) | Err e ↦ stood (set_aside x t) (Err e) ]) (set_aside x t) (λ e. refl) m g seen.tree found_tree d h)) l
 
   pub caught_goes : (u : Tree) (r : Reply) → asked a ≡ Some (evaluate u) → Catches (behind a) → Played caught_reply (end_of_built u) k1 (Ok r) k2 → Goes x row k (behind a) r k2 t
-  caught_goes u r q n h = at_caught (goes_so r) a u q n from l
+  caught_goes u r q n h = at_caught (goes_so x row k t k1 k2 r) a u q n from l
     where
-      from : (f : Caught → Asks) → goes_so r (eval_catching u f)
+      from : (f : Caught → Asks) → goes_so x row k t k1 k2 r (eval_catching u f)
       from f m =
           record {
             leads = subst (λ z. Leads (played x None row) k (played x (set_aside x t) (after (behind (eval_catching u f)) z)) k2) (sym h.1.1) (leads_on m (drive_catching x (set_aside x t) u f (caught_of r) h.0));
@@ -188,34 +193,31 @@ module _ (x : Option Name) (row : Asks) (k : Evaluator) (t : Option Taken) (a : 
   pub caught_stops : (u : Tree) (d : Stop) → asked a ≡ Some (evaluate u) → Catches (behind a) → Played caught_reply (end_of_built u) k1 (Err d) k2 → Finishes x row k (Err d) k2 t
   unfolding played
   caught_stops u d q n h =
-      at_caught (stops_so d) a u q n
+      at_caught (stops_so x row k t k1 k2 d) a u q n
       (λ f m k3 g. row_stops (finished x row) k k3 d (finished_stops x row (end_of_built u) (λ r. elim r [ Ok w ↦ played x (set_aside x t) (f w) | Err e ↦ stood (set_aside x t) (Err e) ]) (set_aside x t) (λ e. refl) m g caught_reply found_tree d h)) l
 
   pub match_goes : (u p : Tree) (b : Bool) → asked a ≡ Some (test u p) → Plays (match.matches p u) k1 (Ok b) k2 false → Goes x row k (behind a) (reply.Matched b) k2 t
-  match_goes u p b q h = at_match (goes_so (reply.Matched b)) a u p q (λ f m. record { leads = leads_on m (drive_matches x (set_aside x t) u p f b h); awaited = tt; honest = tt }) l
+  match_goes u p b q h = at_match (goes_so x row k t k1 k2 (reply.Matched b)) a u p q (λ f m. record { leads = leads_on m (drive_matches x (set_aside x t) u p f b h); awaited = tt; honest = tt }) l
 
   pub match_stops : (u p : Tree) (d : Stop) → asked a ≡ Some (test u p) → Played itself (match.matches p u) k1 (Err d) k2 → Finishes x row k (Err d) k2 t
   unfolding played
   match_stops u p d q h =
-      at_match (stops_so d) a u p q
+      at_match (stops_so x row k t k1 k2 d) a u p q
       (λ f m k3 g. row_stops (finished x row) k k3 d (finished_stops x row (match.matches p u) (λ r. elim r [ Ok w ↦ played x (set_aside x t) (f w) | Err e ↦ stood (set_aside x t) (Err e) ]) (set_aside x t) (λ e. refl) m g itself found_tree d h)) l
 
   pub pass_goes : asked a ≡ Some begin_pass → Plays tick k1 (Ok tt) k2 false → Goes x row k (behind a) reply.Went k2 t
-  pass_goes q h = at_pass (goes_so reply.Went) a q (λ f m. record { leads = leads_on m (drive_pass x (set_aside x t) f h); awaited = tt; honest = tt }) l
+  pass_goes q h = at_pass (goes_so x row k t k1 k2 reply.Went) a q (λ f m. record { leads = leads_on m (drive_pass x (set_aside x t) f h); awaited = tt; honest = tt }) l
 
   pub pass_stops : (d : Stop) → asked a ≡ Some begin_pass → Played itself tick k1 (Err d) k2 → Finishes x row k (Err d) k2 t
   unfolding played
   pass_stops d q h =
-      at_pass (stops_so d) a q
+      at_pass (stops_so x row k t k1 k2 d) a q
       (λ f m k3 g. row_stops (finished x row) k k3 d (finished_stops x row tick (λ r. elim r [ Ok w ↦ played x (set_aside x t) (f w) | Err e ↦ stood (set_aside x t) (Err e) ]) (set_aside x t) (λ e. refl) m g itself found_tree d h)) l
 
   pub let_goes : (n : Option Taken) (v : Tree) → asked a ≡ Some (assign v) → Plays (set_iterator x v (set_aside x t)) k1 (Ok (set_aside x n)) k2 false → Goes x row k (behind a) reply.Went k2 n
   let_goes n v q h =
       at_let (λ b. Leads (played x None row) k (played x (set_aside x t) b) k1 → Goes x row k (behind b) reply.Went k2 n) a v q
       (λ f m. record { leads = leads_on m (drive_let x (set_aside x t) (set_aside x n) v f h); awaited = tt; honest = tt }) l
-
-  abbrev ends_so : Option Stamped → Asks → Type 0
-  ends_so o b = Leads (played x None row) k (played x (set_aside x t) b) k1 → Finishes x row k (Ok o) k2 t
 
   -- the row comes to its answer
   row_ends : (o : Option Stamped) → Leads (played x None row) k (stood (set_aside x t) (Ok (option_map plain o))) k2 → OptionFits (option_map plain o) → HonestMaybe k2 o → Finishes x row k (Ok o) k2 t
@@ -224,17 +226,17 @@ module _ (x : Option Name) (row : Asks) (k : Evaluator) (t : Option Taken) (a : 
 
   pub overflow_ends : (e : Stamped) → asked a ≡ Some overflow → fits (plain e) ≡ true → Plays control.overflow k1 (Ok (Some (plain e))) k2 false → Honest k2 e → Finishes x row k (Ok (Some e)) k2 t
   unfolding played
-  overflow_ends e q f h g = at_overflow (ends_so (Some e)) a q (λ m. row_ends (Some e) (leads_on m (leads_bind control.overflow (λ r. stood (set_aside x t) (Ok r)) h)) f g) l
+  overflow_ends e q f h g = at_overflow (ends_so x row k t k1 k2 (Some e)) a q (λ m. row_ends (Some e) (leads_on m (leads_bind control.overflow (λ r. stood (set_aside x t) (Ok r)) h)) f g) l
 
 -- the row ends where it has come to
 module _ (x : Option Name) (row : Asks) (k : Evaluator) (t : Option Taken) (a : Asks) (k1 : Evaluator) (l : Leads (played x None row) k (played x (set_aside x t) a) k1) where
   pub result_ends : (e : Stamped) → asked a ≡ Some (result (plain e)) → ¬ IsTooLarge a → Honest k1 e → Finishes x row k (Ok (Some e)) k1 t
   unfolding played
-  result_ends e q n g = at_result (λ b. ¬ IsTooLarge b → ends_so x row k t a k1 l {k2 = k1} (Some e) b) a (plain e) q (λ w m. row_ends x row k t a k1 l (Some e) m (within (plain e) w) g) n l
+  result_ends e q n g = at_result (λ b. ¬ IsTooLarge b → ends_so x row k t k1 k1 (Some e) b) a (plain e) q (λ w m. row_ends x row k t a k1 l (Some e) m (within (plain e) w) g) n l
 
   pub unchanged_ends : asked a ≡ Some unchanged → Finishes x row k (Ok None) k1 t
   unfolding played
-  unchanged_ends q = at_unchanged (ends_so x row k t a k1 l {k2 = k1} None) a q (λ m. row_ends x row k t a k1 l None m tt tt) l
+  unchanged_ends q = at_unchanged (ends_so x row k t k1 k1 None) a q (λ m. row_ends x row k t a k1 l None m tt tt) l
 
 -- ---- what is too large
 
@@ -256,19 +258,19 @@ module _ (x : Option Name) (row : Asks) (k : Evaluator) (t : Option Taken) (k1 k
       row_stops (finished x row) k k3 stops.Aborted
       (finished_stops x row (end_of_built u) (λ r. elim r [ Ok v ↦ played x (set_aside x t) (f v) | Err e ↦ stood (set_aside x t) (Err e) ]) (set_aside x t) (λ e. refl) l g caught_reply found_tree stops.Aborted
       (played_stop itself caught_reply (sized u) _ k1 stops.Aborted k2 (sized_large itself u k1 k2 stops.Aborted (beyond u w) m)))
-  large_at stays l w = absurd w
-  large_at overflows l w = absurd w
-  large_at (matches u p f) l w = absurd w
-  large_at (let_be v f) l w = absurd w
-  large_at (pass f) l w = absurd w
+  large_at stays l w k3 g = absurd w
+  large_at overflows l w k3 g = absurd w
+  large_at (matches u p f) l w k3 g = absurd w
+  large_at (let_be v f) l w k3 g = absurd w
+  large_at (pass f) l w k3 g = absurd w
 
 pub refused_finishes : (x : Option Name) (row : Asks) (k : Evaluator) (t : Option Taken) (a : Asks) (k1 k2 : Evaluator) (e : Stop) → Sound k1 → Leads (played x None row) k (played x (set_aside x t) a) k1 → IsRefused a k1 e k2 → Finishes x row k (Err e) k2 t
 refused_finishes x row k t a k1 k2 stops.Memory s l h k3 g = tt
-refused_finishes x row k t a k1 k2 (stops.Thrown v u) s l h = absurd (h refl).1
-refused_finishes x row k t a k1 k2 stops.Aborted s l h = let w = h refl in large_at x row k t k1 k2 s w.1 a l w.0
-refused_finishes x row k t a k1 k2 stops.BudgetEnded s l h = absurd (h refl).1
-refused_finishes x row k t a k1 k2 stops.Broke s l h = absurd (h refl).1
-refused_finishes x row k t a k1 k2 stops.Continued s l h = absurd (h refl).1
+refused_finishes x row k t a k1 k2 (stops.Thrown v u) s l h k3 g = absurd (h refl).1
+refused_finishes x row k t a k1 k2 stops.Aborted s l h k3 g = let w = h refl in large_at x row k t k1 k2 s w.1 a l w.0 k3 g
+refused_finishes x row k t a k1 k2 stops.BudgetEnded s l h k3 g = absurd (h refl).1
+refused_finishes x row k t a k1 k2 stops.Broke s l h k3 g = absurd (h refl).1
+refused_finishes x row k t a k1 k2 stops.Continued s l h k3 g = absurd (h refl).1
 
 -- ---- what can be given back
 
@@ -452,11 +454,6 @@ finishes_exit x row k k1 t r e h m = subst (λ z. Finishes x row k z k1 t) (sym 
 pub comes_exit : (x : Option Name) (row : Asks) (k k1 : Evaluator) (s : Stand) (t : Option Taken) (r : Result Outcome Stop) (e : Stop) → IsErrAnd r (λ d. d ≡ e) → Finishes x row k (Err e) k1 t → Comes x row k s r k1 t
 comes_exit x row k k1 s t r e h m = subst (λ z. Comes x row k s z k1 t) (sym (exit_is r e h)) m
 
--- where it isn't something
-pub none_is : {A : Type 0} (o : Option A) → ((a : A) → o ≡ Some a → ⊥) → o ≡ None
-none_is None h = refl
-none_is (Some a) h = absurd (h a refl)
-
 -- ---- a value for the iterator's name
 
 -- without a name nothing is set
@@ -469,3 +466,9 @@ set_named x y t n v k k1 e h = subst (λ z. Plays (set_iterator z v (set_aside z
 -- what is set aside after it
 pub ready_set : (x : Option Name) (y : Name) (n : Option Taken) (k k1 : Evaluator) {R : Type 0} {p : Prog R} {r : Result R End} {o : Bool} → x ≡ Some y → Sound k → Plays p k r k1 o → AreTaken k1 (Some y) n → Ready x k k1 n
 ready_set x y n k k1 e s h w = record { sound = h.sound s; taken = subst (λ z. AreTaken k1 z n) (sym e) w; grows = h.grows }
+
+-- ---- a refusal by a row
+
+pub refused_by : (a : Asks) (f : ExprFault) (k k1 : Evaluator) (d e : Stop) → (f ≡ fault.Large → IsTooLarge a) → FaultStops f k d k1 → d ≡ e → IsRefused a k e k1
+refused_by a fault.Memory k k1 d e h s q n = absurd (true≢false (sym (ap is_memory (sym q ∙ s)) ∙ n))
+refused_by a fault.Large k k1 d e h s q n = (h refl, subst (λ z. TooLarge k z k1) q s)

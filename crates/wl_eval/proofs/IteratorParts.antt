@@ -24,7 +24,7 @@ use Rattle.wl_eval.specs.Eval.{interp}
 use Rattle.wl_eval.specs.Scoping as spec
 use Rattle.wl_eval.specs.Scoping.{set_own}
 use Rattle.wl_eval.specs.Control as control
-use Rattle.wl_eval.specs.Control.{name_before, named_in, iterated_name, may_set, taken_once, set_iterator}
+use Rattle.wl_eval.specs.Control.{name_before, named_in, iterated_name, may_set, taken_once, set_iterator, give_back_taken}
 use Rattle.wl_eval.specs.LeftSides.{is_limit, limit_allows}
 use Rattle.wl_eval.specs.Played.{Plays, IsTaken, IsUnprotected, MayHave, state, trees}
 use Rattle.wl_eval.specs.Replies.{AreTaken, plain_taken, set_aside}
@@ -179,3 +179,16 @@ pub are_later : {R : Type 0} {p : Prog R} {k k1 : Evaluator} {r : Result R End} 
 are_later h (Some x) (Some t) w = taken_later h x t w
 are_later h (Some x) None w = tt
 are_later h None t w = tt
+
+-- where it isn't something
+pub none_is : {A : Type 0} (o : Option A) → ((a : A) → o ≡ Some a → ⊥) → o ≡ None
+none_is None h = refl
+none_is (Some a) h = absurd (h a refl)
+
+-- nothing comes back where nothing was set aside, or where there is no name
+pub nothing_back : (x : Option Name) (t : Option Taken) (k : Evaluator) → t ≡ None → Plays (give_back_taken (set_aside x t)) k (Ok tt) k false
+nothing_back None t k e = plays_done
+nothing_back (Some y) t k e = subst (λ z. Plays (give_back_taken (set_aside (Some y) z)) k (Ok tt) k false) (sym e) plays_done
+
+pub nobody_back : (x : Option Name) (t : Option Taken) (k : Evaluator) → x ≡ None → Plays (give_back_taken (set_aside x t)) k (Ok tt) k false
+nobody_back x t k e = subst (λ z. Plays (give_back_taken (set_aside z t)) k (Ok tt) k false) (sym e) plays_done

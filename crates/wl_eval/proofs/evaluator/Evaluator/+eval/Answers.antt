@@ -74,7 +74,7 @@ use Rattle.wl_eval.specs.Honest.{Grows}
 use Rattle.wl_eval.specs.Replies.{AreTaken, Comes, Finishes, HonestAsk, Ready, caught_reply, set_aside, told_by}
 use Rattle.wl_eval.specs.declared.replies.Outcome.TheVariants as outcome
 use Rattle.wl_eval.specs.declared.replies.Reply.TheVariants as replies
-use Rattle.wl_eval.proofs.ControlParts.{asked_honest, catches_behind, catches_not, caught_goes, caught_played, caught_stops, comes_at, comes_exit, finishes_exit, holds_next, let_goes, match_goes, match_stops, none_is, none_taken, overflow_ends, pass_goes, pass_stops, proceeds_ends, proceeds_first, proceeds_on, protected_row, ready_at, ready_exit, ready_large, ready_same, ready_set, ready_stop, ready_then, refused_finishes, result_ends, row_begins, row_bounded, set_named, set_nothing, started, starts_row, unchanged_ends, unprotected_row, value_goes, value_stops}
+use Rattle.wl_eval.proofs.ControlParts.{asked_honest, catches_behind, catches_not, caught_goes, caught_played, caught_stops, comes_at, comes_exit, finishes_exit, holds_next, let_goes, match_goes, match_stops, none_taken, overflow_ends, pass_goes, pass_stops, proceeds_ends, proceeds_first, proceeds_on, protected_row, ready_at, ready_exit, ready_large, ready_same, ready_set, ready_stop, ready_then, refused_finishes, result_ends, row_begins, row_bounded, set_named, set_nothing, started, starts_row, unchanged_ends, unprotected_row, value_goes, value_stops}
 use Rattle.wl_eval.proofs.Tables.{row_control}
 use Rattle.wl_eval.specs.LocalNames as local_names
 use Rattle.wl_eval.specs.LocalNames.{local_in, locals_in}
@@ -95,6 +95,8 @@ use Rattle.wl_eval.specs.State.{Thrown}
 use Rattle.wl_eval.proofs.Catching.{abort_two, catch_one, catch_two, end_honest, tagged_is, tagged_passed, tagged_thrown, thrown_caught, thrown_on, thrown_stops}
 use Rattle.wl_eval.proofs.Hushing.{check_two, hushed_is, leaf_quietly, quiet_ended, quiet_one, quieted_sound, unheard_sound}
 use Rattle.wl_eval.proofs.SlotParts.{built_in-function}
+use Rattle.wl_eval.proofs.IteratorParts.{none_is}
+use Rattle.wl_eval.proofs.LiteralParts.{missed_so, rule_missed, rule_stopped}
 use Rattle.wl_expr.proofs.SameNodes.{same_answer}
 use Rattle.wl_expr.specs.Tree.{depths}
 use Rattle.wl_shape.specs.Shape.{without_sequences}
@@ -1127,7 +1129,7 @@ pub rule_result-returns-clause-played : goal.rule_result-returns-clause-played
 rule_result-returns-clause-played g t c =
     let r = c.args.rule.now in
     let f = c.in_ok-flags.ensures.played in
-    rule_played (plain r.body) (plain r.left) (plain c.args.e.now) (whole c.in_ok-pattern.pattern) f.0 _ _ _ _ f.1 (c.in_ok-pattern.ensures.named f.0 (c.as_slice.ensures.value ∙ f.2)) c.first_filling.ensures.played
+    rule_played (plain r.body) (plain r.left) (plain c.args.e.now) (whole c.in_ok-pattern.pattern) f.0 _ _ _ _ f.1 (c.in_ok-pattern.ensures.named f.0 (c.as_slice-2.ensures.value ∙ f.2)) c.first_filling.ensures.played
 
 -- ---- a trial
 
@@ -2749,6 +2751,26 @@ other_row-returns-in-Quiet-clause-played g t c = subst (λ z. Played found_tree 
 
 pub other_row-returns-in-Check-clause-played : goal.other_row-returns-in-Check-clause-played
 other_row-returns-in-Check-clause-played g t c = subst (λ z. Played found_tree (sized_row (kinds.row_by z (trees c.args.args.now))) c.args.self.now c.check_row.result c.check_row.new.self) (sym c.in-Check.is) c.check_row.ensures.played
+
+-- ---- a rule that matches nothing but itself
+
+pub rule_result-returns-in_err-take_step-clause-played : goal.rule_result-returns-in_err-take_step-clause-played
+rule_result-returns-in_err-take_step-clause-played g t c =
+    let r = c.args.rule.now in
+    let u = plain c.args.e.now in
+    let f = c.in_ok-flags.ensures.played in
+    let fs = c.as_slice.result.now in
+    let m = missed_so f.0 (plain r.left) u fs c.matches_itself.result c.same.result c.matches_itself.ensures c.if-matches_itself.true c.same.ensures c.if-not-same.true (c.as_slice.ensures.value ∙ f.2) in
+    rule_stopped (plain r.body) (plain r.left) u fs f.0 f.1 m _ _ (exit itself found_tree _ _ _ _ _ _ c.from_residual-in_err-take_step.ensures.1 c.in_err-take_step.ensures.played)
+
+pub rule_result-returns-then-not-same-clause-played : goal.rule_result-returns-then-not-same-clause-played
+rule_result-returns-then-not-same-clause-played g t c =
+    let r = c.args.rule.now in
+    let u = plain c.args.e.now in
+    let f = c.in_ok-flags.ensures.played in
+    let fs = c.as_slice.result.now in
+    let m = missed_so f.0 (plain r.left) u fs c.matches_itself.result c.same.result c.matches_itself.ensures c.if-matches_itself.true c.same.ensures c.if-not-same.true (c.as_slice.ensures.value ∙ f.2) in
+    rule_missed (plain r.body) (plain r.left) u fs f.0 f.1 m _ c.in_ok-take_step.ensures.played.0
 
 -- ---- left sides
 
