@@ -41,3 +41,6 @@ mod Symbols
 mod EntryRowParts
 mod HistoryRowParts
 mod DefiningParts
+mod History
+mod Kernels
+mod Ticking

@@ -12,6 +12,7 @@ ghost use Rattle.wl_eval.specs.Honest.{HonestIn};
 ghost use Rattle.wl_eval.specs.Operands.{attributes_changed, names_among, protection, protection_names, put_all, sized_row};
 ghost use Rattle.wl_eval.specs.Played.{Makes, Played, Plays, Sound, found_tree, trees};
 ghost use Rattle.std.specs.Prelude.{true};
+ghost use Rattle.wl_eval.specs.Marks.{at_last_mark};
 
 use crate::ends::Stop;
 use crate::evaluator::Evaluator;
@@ -210,6 +211,7 @@ impl Evaluator {
         requires named { plain symbol.now ≡ tree.symbol name.now }
         ensures played { IfOk result (λ _. Plays (rows.clear_one all name.now) self.old (Ok tt) self.new false) }
         ensures kept { self.new.steps ≡ self.old.steps }
+        ensures ticks { at_last_mark work.new ≡ at_last_mark work.old }
     {
         let is_protected = self.is_protected(name, work)?;
         if is_protected {
@@ -231,6 +233,7 @@ impl Evaluator {
         requires sound { Sound self.old }
         ensures played { Played found_tree (sized_row (rows.clear_named all (names_of (trees args.now)))) self.old result self.new }
         ensures kept { self.new.steps ≡ self.old.steps }
+        ensures ticks { at_last_mark work.new ≡ at_last_mark work.old }
     {
         if args.is_empty() {
             return Ok(None);
@@ -255,6 +258,7 @@ impl Evaluator {
         requires sound { Sound self.old }
         ensures played { Played found_tree (sized_row (rows.clear_row (trees args.now))) self.old result self.new }
         ensures falls { self.new.steps ≤ self.old.steps }
+        ensures ticks { at_last_mark work.new ≡ at_last_mark work.old }
     {
         self.clear_named(false, args, work)
     }
@@ -267,6 +271,7 @@ impl Evaluator {
         requires sound { Sound self.old }
         ensures played { Played found_tree (sized_row (rows.clear_all_row (trees args.now))) self.old result self.new }
         ensures falls { self.new.steps ≤ self.old.steps }
+        ensures ticks { at_last_mark work.new ≡ at_last_mark work.old }
     {
         self.clear_named(true, args, work)
     }
@@ -279,6 +284,7 @@ impl Evaluator {
         requires sound { Sound self.old }
         ensures played { Played found_tree (sized_row (rows.attributes_row (trees args.now))) self.old result self.new }
         ensures falls { self.new.steps ≤ self.old.steps }
+        ensures ticks { at_last_mark work.new ≡ at_last_mark work.old }
     {
         let Some(name) = only_symbol(args) else {
             return Ok(None);
@@ -300,6 +306,7 @@ impl Evaluator {
         ensures played { IfOk result (λ _. Plays (rows.change_attributes (λ s. put_all are_in s attributes.now) name.now)
             self.old (Ok tt) self.new false) }
         ensures kept { self.new.steps ≡ self.old.steps }
+        ensures ticks { at_last_mark work.new ≡ at_last_mark work.old }
     {
         let set = self.attributes_of(name, work)?;
         self.set_attributes(name, put_all(set, attributes, are_in))
@@ -316,6 +323,7 @@ impl Evaluator {
         ensures played { IfOk result (λ _. Plays (rows.change_each (λ s. put_all are_in s attributes.now) (names_among (trees symbols.now)))
             self.old (Ok (Some null_symbol)) self.new false) }
         ensures kept { self.new.steps ≡ self.old.steps }
+        ensures ticks { at_last_mark work.new ≡ at_last_mark work.old }
     {
         for i in 0..symbols.len() {
             let Look::Symbol(name) = symbols[i].view() else {
@@ -336,6 +344,7 @@ impl Evaluator {
         requires sound { Sound self.old }
         ensures played { Played found_tree (sized_row (attributes_changed are_in (trees args.now))) self.old result self.new }
         ensures kept { self.new.steps ≡ self.old.steps }
+        ensures ticks { at_last_mark work.new ≡ at_last_mark work.old }
     {
         let Some((symbols, attributes)) = two(args) else {
             return Ok(None);
@@ -360,6 +369,7 @@ impl Evaluator {
         requires sound { Sound self.old }
         ensures played { Played found_tree (sized_row (rows.set_attributes_row (trees args.now))) self.old result self.new }
         ensures falls { self.new.steps ≤ self.old.steps }
+        ensures ticks { at_last_mark work.new ≡ at_last_mark work.old }
     {
         self.attributes_changed(true, args, work)
     }
@@ -372,6 +382,7 @@ impl Evaluator {
         requires sound { Sound self.old }
         ensures played { Played found_tree (sized_row (rows.clear_attributes_row (trees args.now))) self.old result self.new }
         ensures falls { self.new.steps ≤ self.old.steps }
+        ensures ticks { at_last_mark work.new ≡ at_last_mark work.old }
     {
         self.attributes_changed(false, args, work)
     }
@@ -386,6 +397,7 @@ impl Evaluator {
         requires sound { Sound self.old }
         ensures played { Played found_tree (sized_row (protection protects name.now)) self.old result self.new }
         ensures kept { self.new.steps ≡ self.old.steps }
+        ensures ticks { at_last_mark work.new ≡ at_last_mark work.old }
     {
         let set = self.attributes_of(name, work)?;
         self.set_attributes(name, put(set, Attribute::Protected, protects))?;
@@ -402,6 +414,7 @@ impl Evaluator {
         requires sound { Sound self.old }
         ensures played { Played found_tree (sized_row (rows.protect_row (trees args.now))) self.old result self.new }
         ensures falls { self.new.steps ≤ self.old.steps }
+        ensures ticks { at_last_mark work.new ≡ at_last_mark work.old }
     {
         match only_symbol(args) {
             None => Ok(None),
@@ -417,6 +430,7 @@ impl Evaluator {
         requires sound { Sound self.old }
         ensures played { Played found_tree (sized_row (rows.unprotect_row (trees args.now))) self.old result self.new }
         ensures falls { self.new.steps ≤ self.old.steps }
+        ensures ticks { at_last_mark work.new ≡ at_last_mark work.old }
     {
         match only_symbol(args) {
             None => Ok(None),

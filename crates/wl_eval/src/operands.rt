@@ -8,6 +8,7 @@ ghost use Rattle.wl_eval.specs.BuiltIn.{sized_result};
 ghost use Rattle.wl_eval.specs.Operands.{listed, only_name, two_trees};
 ghost use Rattle.wl_eval.specs.Played.{Honest, Makes, Played, found_tree, trees};
 ghost use Rattle.std.specs.Prelude.{Some, None};
+ghost use Rattle.wl_eval.specs.Marks.{at_last_mark};
 
 use crate::ends::Stop;
 use crate::evaluator::Evaluator;
@@ -110,6 +111,7 @@ impl Evaluator {
         requires honest { IfOk made (Honest self.old) }
         ensures played { (t : Tree) → Makes t made → Played found_tree (sized_result (Some t)) self.old result self.new }
         ensures kept { self.new.steps ≡ self.old.steps }
+        ensures ticks { at_last_mark work.new ≡ at_last_mark work.old }
     {
         let e = self.fitted(made, work)?;
         Ok(Some(e))

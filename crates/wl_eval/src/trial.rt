@@ -9,6 +9,7 @@ ghost use Rattle.wl_eval.specs.Honest.{HonestRule};
 ghost use Rattle.wl_eval.specs.Match as matching;
 ghost use Rattle.wl_eval.specs.Played.{AllHonest, AllHonestRules, Honest, Played, Sound, found_tree};
 ghost use Rattle.wl_eval.specs.Searching.{HonestView};
+ghost use Rattle.wl_eval.specs.Marks.{at_last_mark};
 
 use crate::ends::Stop;
 use crate::evaluator::Evaluator;
@@ -33,6 +34,7 @@ impl Evaluator {
         requires honest { Honest self.old e.now }
         ensures played { Played found_tree (matching.trial (map plain_rule rules.now) (plain e.now)) self.old result self.new }
         ensures falls { self.new.steps ≤ self.old.steps }
+        ensures ticks { at_last_mark work.new ≡ at_last_mark work.old }
     {
         for i in 0..rules.len() {
             let Some(rule) = rules.at(i) else {
@@ -59,6 +61,7 @@ impl Evaluator {
         requires honest { Honest self.old e.now }
         ensures played { Played found_tree (matching.rule_result (plain_rule rule.now) (plain e.now)) self.old result self.new }
         ensures falls { self.new.steps ≤ self.old.steps }
+        ensures ticks { at_last_mark work.new ≡ at_last_mark work.old }
     {
         let flags = self.flags_of(&rule.left, work)?;
         let pattern = Pattern::prepare(self.alloc, &rule.left, flags.as_slice())?;
@@ -80,6 +83,7 @@ impl Evaluator {
         requires body { Honest self.old body.now }
         ensures played { Played found_tree (matching.walk (matching.filling (plain body.now)) (Trials (whole pattern.now) (plain e.now))) self.old result self.new }
         ensures falls { self.new.steps ≤ self.old.steps }
+        ensures ticks { at_last_mark work.new ≡ at_last_mark work.old }
     {
         let mut machine = Machine::start(self.alloc);
         'bindings: loop {
@@ -108,6 +112,7 @@ impl Evaluator {
         requires body { Honest self.old body.now }
         ensures played { Played found_tree (matching.filling (plain body.now) (trail_in view.now)) self.old result self.new }
         ensures falls { self.new.steps ≤ self.old.steps }
+        ensures ticks { at_last_mark work.new ≡ at_last_mark work.old }
     {
         let _steps = self.steps;
         let holds = self.tests_hold(view, work)?;

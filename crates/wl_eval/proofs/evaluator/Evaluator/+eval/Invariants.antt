@@ -15,6 +15,7 @@ use Rattle.wl_eval.specs.declared.ends.End.{End}
 use Rattle.wl_eval.specs.declared.ends.Stop.{Stop}
 use Rattle.wl_eval.specs.declared.evaluator.Evaluator.{Evaluator}
 use Rattle.wl_eval.proofs.Bindings.{all_tests, test_within}
+use Rattle.wl_eval.specs.Marks.{at_last_mark}
 use Rattle.wl_eval.proofs.evaluator.Evaluator.+eval.Given as goal
 
 -- ---- what takes no step of its own stands below what it may be called from; a turn has taken a step
@@ -117,6 +118,7 @@ invariant-turns-loop-self g l = record {
   sound : Sound l.self;
   honest : Honest l.self l.subject;
   falls : l.self.steps ≤ l.fn.self.steps;
+  ticks : at_last_mark l.work ≡ at_last_mark l.fn.work;
 }
 
 abbrev pub decreases-turns-loop-self : goal.decreases-turns-loop-self
@@ -131,6 +133,7 @@ invariant-elements-loop-i g l = record {
   inside : AtEvaluated (Inside l.self l.self.depth) l.attributes [] (from_list l.values.items);
   count : length l.values.items ≡ l.i;
   falls : l.self.steps ≤ l.fn.self.steps;
+  ticks : at_last_mark l.work ≡ at_last_mark l.fn.work;
 }
 
 abbrev pub invariant-up_values-loop-i : goal.invariant-up_values-loop-i
@@ -139,6 +142,7 @@ invariant-up_values-loop-i g l = record {
   sound : Sound l.self;
   honest : Honest l.self l.form;
   falls : l.self.steps ≤ l.fn.self.steps;
+  ticks : at_last_mark l.work ≡ at_last_mark l.fn.work;
 }
 
 abbrev pub invariant-trial-loop-i : goal.invariant-trial-loop-i
@@ -148,6 +152,7 @@ invariant-trial-loop-i g l = record {
   rules : AllHonestRules l.self l.rules;
   honest : Honest l.self l.e;
   falls : l.self.steps ≤ l.fn.self.steps;
+  ticks : at_last_mark l.work ≡ at_last_mark l.fn.work;
 }
 
 abbrev pub invariant-first_filling-bindings : goal.invariant-first_filling-bindings
@@ -159,6 +164,7 @@ invariant-first_filling-bindings g l = record {
   honest : Honest l.self l.e;
   body : Honest l.self l.body;
   falls : l.self.steps ≤ l.fn.self.steps;
+  ticks : at_last_mark l.work ≡ at_last_mark l.fn.work;
 }
 
 abbrev pub decreases-first_filling-bindings : goal.decreases-first_filling-bindings
@@ -172,6 +178,7 @@ invariant-has_match-bindings g l = record {
   pattern : AllHonest l.self (kept l.pattern);
   honest : Honest l.self l.e;
   falls : l.self.steps ≤ l.fn.self.steps;
+  ticks : at_last_mark l.work ≡ at_last_mark l.fn.work;
 }
 
 abbrev pub decreases-has_match-bindings : goal.decreases-has_match-bindings
@@ -183,6 +190,7 @@ invariant-tests_hold-loop-k g l = record {
   sound : Sound l.self;
   view : HonestView l.self l.view;
   falls : l.self.steps ≤ l.fn.self.steps;
+  ticks : at_last_mark l.work ≡ at_last_mark l.fn.work;
 }
 
 abbrev pub invariant-each_applies-loop-i : goal.invariant-each_applies-loop-i
@@ -192,4 +200,5 @@ invariant-each_applies-loop-i g l = record {
   function : Honest l.self l.f;
   elements : AllHonest l.self l.elements;
   falls : l.self.steps ≤ l.fn.self.steps;
+  ticks : at_last_mark l.work ≡ at_last_mark l.fn.work;
 }

@@ -25,6 +25,7 @@ leaves-preserved g c =
           (plays_bind _ _ c.in_ok-take_step-in-Fail.ensures.played.0 h));
       searches = c.next.ensures.searches l.invariant.searches;
       falls = omega arith;
+      ticks = cc;
     }
 
 pub returns-in_err-take_step-in-Fail-clause-played : goal.returns-in_err-take_step-in-Fail-clause-played
