@@ -40,7 +40,7 @@ spoiled_none None e = refl
 spoiled_none (Some u) e = absurd (true≢false (sym e))
 
 pub idle_after : {R : Type 0} {p : Prog R} {k k1 : Evaluator} {r : Result R End} {o : Bool} → Plays p k r k1 o → (ls : List Line) → IsIdle k ls → IsIdle k1 ls
-idle_after {p = p} {k} {k1} x ls h = record {
+idle_after {R} {p} {k} {k1} {r} {o} x ls h = record {
   sound = x.sound h.sound;
   depth = same_depth x ∙ h.depth;
   log = spoiled_none k1.log (x.notes.spoiled ∙ ap (λ l. is_spoiled l || (Go p (state k)).did.effect) h.log);
@@ -50,11 +50,11 @@ idle_after {p = p} {k} {k1} x ls h = record {
 
 -- the state behind a program from an idle evaluator, in the words of a kernel
 pub idle_leaves : {R : Type 0} {p : Prog R} {k k1 : Evaluator} {r : Result R End} {o : Bool} → Plays p k r k1 o → (ls : List Line) (b c : Bool) → IsIdle k ls → state_of (view_of k1 ls c) ≡ (Go p (state_of (view_of k ls b))).state
-idle_leaves {p = p} {k} {k1} x ls b c h =
-    idle_state k1 ls c (idle_after x ls h) ∙ sym x.leaves ∙ ap (λ s. (Go p s).state) (sym (idle_state k ls b h))
+idle_leaves {R} {p} {k} {k1} {r} {o} x ls b c h =
+    idle_state k1 ls c (idle_after x ls h) ∙ sym x.leaves ∙ ap (λ (s : State). (Go p s).state) (sym (idle_state k ls b h))
 
 pub idle_ends : {R : Type 0} {p : Prog R} {k k1 : Evaluator} {r : Result R End} {o : Bool} → Plays p k r k1 o → (ls : List Line) (b : Bool) → IsIdle k ls → (Go p (state_of (view_of k ls b))).result ≡ r
-idle_ends {p = p} {k} x ls b h = ap (λ s. (Go p s).result) (idle_state k ls b h) ∙ x.ends
+idle_ends {R} {p} {k} {k1} {r} {o} x ls b h = ap (λ (s : State). (Go p s).result) (idle_state k ls b h) ∙ x.ends
 
 -- ---- an evaluation
 
@@ -66,17 +66,17 @@ go_state : (t : Tree) (s : State) → (Go (end_of t) s).state ≡ (Eval t s).sta
 unfolding end_of interp
 go_state t s = refl
 
-the_end : Result End End → End
+abbrev the_end : Result End End → End
 the_end (Ok e) = e
 the_end (Err e) = e
 
 pub evaluated_ends : (t : Tree) {k k1 : Evaluator} {e : End} {o : Bool} → Plays (end_of t) k (Ok e) k1 o → (ls : List Line) (b : Bool) → IsIdle k ls → outcome e ≡ (evaluated t (state_of (view_of k ls b))).result
-evaluated_ends t {k} x ls b h =
+evaluated_ends t {k} {k1} {e} {o} x ls b h =
     let s = state_of (view_of k ls b) in
-    sym (ap (λ r. outcome (the_end r)) (sym (go_result t s) ∙ idle_ends x ls b h))
+    sym (ap (λ (r : Result End End). outcome (the_end r)) (sym (go_result t s) ∙ idle_ends x ls b h))
 
 pub evaluated_leaves : (t : Tree) {k k1 : Evaluator} {e : End} {o : Bool} → Plays (end_of t) k (Ok e) k1 o → (ls : List Line) (b c : Bool) → IsIdle k ls → state_of (view_of k1 ls c) ≡ (evaluated t (state_of (view_of k ls b))).state
-evaluated_leaves t {k} x ls b c h = idle_leaves x ls b c h ∙ go_state t (state_of (view_of k ls b))
+evaluated_leaves t {k} {k1} {e} {o} x ls b c h = idle_leaves x ls b c h ∙ go_state t (state_of (view_of k ls b))
 
 pub good_honest : (n : ℕ) (k : Evaluator) (e : ends.End) → GoodEnd n k e → HonestEnd k e
 good_honest n k (end.Value v) h = h.0

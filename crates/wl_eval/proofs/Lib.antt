@@ -43,4 +43,5 @@ mod HistoryRowParts
 mod DefiningParts
 mod History
 mod Kernels
+mod Throws
 mod Ticking

@@ -1,13 +1,14 @@
 -- A kernel as contracts see it: the state of the definition that it is in, and when what it keeps is honest.
-use Rattle.std.specs.Prelude.{ℕ, ◌≡◌, Bool, List, [], ◌∷◌, ◌++◌, map, option_map, Option, Some, None, refl, ⊤}
+use Rattle.std.specs.Prelude.{ℕ, ◌≡◌, Bool, List, [], ◌∷◌, ◌++◌, map, option_map, option_to_list, Option, Some, None, codes, refl, ⊤}
 use Rattle.std.specs.Coded.{Coded, code_by, coded×, coded_list, coded_ℕ, coded_bool}
 use Rattle.std.specs.List.{All}
 use Rattle.wl_desk.specs.Desk.{Desk, refilled}
 use Rattle.wl_desk.specs.DeskCode.{desk_code}
 use Rattle.wl_eval.specs.Honest.{HonestIn, HonestOption, HonestStore}
 use Rattle.wl_eval.specs.Played.{HonestLine, Sound, plain_line}
-use Rattle.wl_expr.specs.Stamped.{Stamped, plain, stamped_code}
+use Rattle.wl_expr.specs.Stamped.{Stamped, from_list, node, plain, stamped_code, symbol}
 use Rattle.wl_expr.specs.Tree.{Tree}
+use Rattle.wl_expr.specs.Words.{Name}
 use Rattle.wl_rules.specs.Stored.{Stored, definitions}
 use Rattle.wl_rules.specs.StoredCodes.{stored_code}
 use Rattle.wl_eval.specs.Outcome.{thrown}
@@ -60,6 +61,16 @@ end_of BudgetEnded = spec.BudgetEnded
 -- a Throw of this value, with its tag where it has one
 abbrev pub thrown_tree : Stamped → Option Stamped → Tree
 thrown_tree v t = thrown (plain v) (option_map plain t)
+
+-- what is built of them, without stamps of its own
+abbrev pub throw_node : Stamped → Option Stamped → Stamped
+throw_node v t = node None (symbol None (codes "Throw")) (from_list (v ∷ option_to_list t))
+
+abbrev pub call_node : Name → Stamped
+call_node x = node None (symbol None x) (from_list [])
+
+abbrev pub held_node : Stamped → Stamped
+held_node e = node None (symbol None (codes "Hold")) (from_list (e ∷ []))
 
 -- ---- what is honest
 

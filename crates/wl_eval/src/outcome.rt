@@ -1,16 +1,14 @@
 //! How an evaluation that was asked for ends.
-ghost use Rattle.std.specs.Prelude.{◌≡◌, IfOk, OnOk, Ok, Err, true, false, [], option_map, option_copied};
+ghost use Rattle.std.specs.Prelude.{◌≡◌, IfOk, OnOk, Ok, Err, true, false, option_map, option_copied};
 ghost use Rattle.wl_expr.specs.Stamped.{plain};
-ghost use Rattle.wl_expr.specs.Words.{fits, form};
+ghost use Rattle.wl_expr.specs.Words.{fits};
 ghost use Rattle.wl_expr.specs.declared.fault.ExprFault.TheVariants as fault;
-ghost use Rattle.wl_eval.specs.Honest.{HonestIn, HonestOption};
-ghost use Rattle.wl_eval.specs.KernelView.{HonestOutcomeIn, end_of, thrown_tree};
+ghost use Rattle.wl_eval.specs.KernelView.{HonestOutcomeIn, call_node, end_of, held_node, throw_node, thrown_tree};
 ghost use Rattle.wl_eval.specs.Outcome as spec;
 ghost use Rattle.wl_eval.specs.Played as played;
 ghost use Rattle.wl_eval.specs.Played.{Honest, HonestEnd, HonestMaybe, Makes, Plays};
 ghost use Rattle.wl_eval.specs.declared.evaluator.Evaluator.{Evaluator};
 ghost use Rattle.wl_ports.specs.Name.{IsName};
-ghost use Rattle.wl_rules.specs.Stored.{Stored};
 ghost use Rattle.wl_eval.specs.Marks.{at_last_mark};
 
 use crate::ends::End;
@@ -55,8 +53,7 @@ pub(crate) fn outcome_of(alloc: Global, end: End) -> Result<Outcome, Memory>
 /// `Hold[f[]]` of a short name f.
 fn held_call(alloc: Global, name: &str) -> Result<Expr, Memory>
     requires { IsName name.now }
-    ensures tree { IfOk result (λ e. plain e ≡ spec.held (form name.now [])) }
-    ensures honest { (a : Stored) → IfOk result (HonestIn a) }
+    ensures { IfOk result (λ e. e ≡ held_node (call_node name.now)) }
 {
     let head = symbol(alloc, name)?;
     let Ok(call) = Expr::node(alloc, &head, &[]) else {
@@ -71,7 +68,7 @@ fn held_call(alloc: Global, name: &str) -> Result<Expr, Memory>
 /// `Hold[e]`.
 fn held(alloc: Global, e: &Expr) -> Result<Expr, ExprFault>
     ensures made { Makes (spec.held (plain e.now)) result }
-    ensures honest { (a : Stored) → HonestIn a e.now → IfOk result (HonestIn a) }
+    ensures node { IfOk result (λ h. h ≡ held_node e.now) }
 {
     let head = symbol(alloc, "Hold")?;
     Expr::node(alloc, &head, slice::from_ref(e))
@@ -80,7 +77,7 @@ fn held(alloc: Global, e: &Expr) -> Result<Expr, ExprFault>
 /// `Throw[v]`, or `Throw[v, t]` with a tag.
 fn thrown(alloc: Global, value: &Expr, tag: Option<&Expr>) -> Result<Expr, ExprFault>
     ensures made { Makes (thrown_tree value.now (option_copied tag.entry)) result }
-    ensures honest { (a : Stored) → HonestIn a value.now → HonestOption a (option_copied tag.entry) → IfOk result (HonestIn a) }
+    ensures node { IfOk result (λ e. e ≡ throw_node value.now (option_copied tag.entry)) }
 {
     let head = symbol(alloc, "Throw")?;
     match tag {
@@ -102,11 +99,10 @@ struct Uncaught {
 impl Uncaught {
     /// `Large` where it would be too large once it is held.
     fn of(alloc: Global, value: &Expr, tag: Option<&Expr>) -> Result<Uncaught, ExprFault>
-        ensures thrown { IfOk result (λ u. plain u.thrown ≡ thrown_tree value.now (option_copied tag.entry)) }
-        ensures held { IfOk result (λ u. plain u.held ≡ spec.held (thrown_tree value.now (option_copied tag.entry))) }
+        ensures thrown { IfOk result (λ u. u.thrown ≡ throw_node value.now (option_copied tag.entry)) }
+        ensures held { IfOk result (λ u. u.held ≡ held_node (throw_node value.now (option_copied tag.entry))) }
         ensures fits { OnOk result (fits (spec.held (thrown_tree value.now (option_copied tag.entry))) ≡ true) }
         ensures large { result ≡ Err fault.Large → fits (spec.held (thrown_tree value.now (option_copied tag.entry))) ≡ false }
-        ensures honest { (a : Stored) → HonestIn a value.now → HonestOption a (option_copied tag.entry) → IfOk result (λ u. HonestIn a u.held) }
     {
         let thrown = thrown(alloc, value, tag)?;
         let held = held(alloc, &thrown)?;
