@@ -1,4 +1,4 @@
-use Rattle.std.proofs.Common.{◌≤◌}
+use Rattle.std.proofs.Common.{◌≡◌, ◌≤◌}
 use Rattle.wl_expr.specs.Stamped.{plain}
 use Rattle.wl_match.specs.Left.{Searches, left}
 use Rattle.wl_eval.specs.Played.{Leads}
