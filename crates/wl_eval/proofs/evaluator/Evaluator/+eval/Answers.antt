@@ -106,6 +106,7 @@ built_in-returns-in_default g t c =
     record {
       played = (subst (λ p. Plays p c.args.self.now (Ok None) c.args.self.now false) (sym (built_in-none _ (no_node _ _ _ c.view.ensures.all c.in_default.not-Node))) plays_done, tt);
       falls = omega arith;
+      ticks = refl;
     }
 
 pub built_in-row-requires : goal.built_in-row-requires
@@ -511,7 +512,7 @@ turns-loop-self-preserved g t c =
       sound = w.0.sound (marked_sound l.count l.self l.invariant.sound);
       honest = w.1;
       falls = let e = ap (λ (z : Evaluator). z.steps) c.note_turn.ensures in omega (arith, e, c.in-Ok-Next.ensures.falls, l.invariant.falls);
-      ticks = cc;
+      ticks = c.stepped_turn.ensures.ticks ∙ l.invariant.ticks;
     }
 
 -- ---- up values
