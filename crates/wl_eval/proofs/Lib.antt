@@ -60,3 +60,7 @@ mod GuardParts
 mod Hushing
 mod Catching
 mod SlotParts
+mod History
+mod Kernels
+mod Throws
+mod Ticking

@@ -31,6 +31,9 @@ pub mod Logs
 pub mod Played
 pub mod Searching
 pub mod Recall
+-- A kernel as other crates see it.
+pub mod Marks
+pub mod KernelView
 -- What the functions of a turn say besides.
 pub mod Kinds
 pub mod Parts

@@ -8,6 +8,7 @@ ghost use Rattle.wl_eval.specs.Kinds.{begins_capital, row_by};
 ghost use Rattle.wl_eval.specs.Parts.{Answers, HonestApplied, sized_row};
 ghost use Rattle.wl_eval.specs.Played.{AllHonest, Honest, Played, Plays, Sound, found_tree, trees};
 ghost use Rattle.wl_eval.specs.PureRows as pure;
+ghost use Rattle.wl_eval.specs.Marks.{at_last_mark};
 
 use crate::end_rows::{abort_row, break_row, continue_row, throw_row};
 use crate::ends::Stop;
@@ -41,6 +42,7 @@ impl Evaluator {
         requires honest { Honest self.old form.now }
         ensures played { Played found_tree (table.built_in (plain form.now)) self.old result self.new }
         ensures falls { self.new.steps ≤ self.old.steps }
+        ensures ticks { at_last_mark work.new ≡ at_last_mark work.old }
     {
         let Look::Node(head, args) = form.view() else {
             return Ok(None);
@@ -63,6 +65,7 @@ impl Evaluator {
         requires args { AllHonest self.old args.now }
         ensures played { Played found_tree (sized_row (table.row name.now (trees args.now))) self.old result self.new }
         ensures falls { self.new.steps ≤ self.old.steps }
+        ensures ticks { at_last_mark work.new ≡ at_last_mark work.old }
     {
         if !begins_capital(name) {
             return Ok(None);
@@ -98,6 +101,7 @@ impl Evaluator {
         requires args { AllHonest self.old args.now }
         ensures played { Played found_tree (sized_row (row_by kind (trees args.now))) self.old result self.new }
         ensures falls { self.new.steps ≤ self.old.steps }
+        ensures ticks { at_last_mark work.new ≡ at_last_mark work.old }
     {
         match kind {
             Kind::Set => self.set_row(args, work),
@@ -164,6 +168,7 @@ impl Evaluator {
         requires honest { IfOk answer (HonestApplied self.old) }
         ensures played { (a : answers.Applied) → Answers a answer → Played found_tree (sized_row (pure.applied_by a)) self.old result self.new }
         ensures kept { self.new.steps ≡ self.old.steps }
+        ensures ticks { at_last_mark work.new ≡ at_last_mark work.old }
     {
         match answer {
             Err(fault) => Err(self.fault(fault, work)),
@@ -184,6 +189,7 @@ impl Evaluator {
     fn notify<L: Ledger>(&mut self, notice: Notice, work: &mut Work<L>) -> Result<(), Memory>
         ensures played { IfOk result (λ _. Plays (pure.notify (plain_notice notice)) self.old (Ok tt) self.new false) }
         ensures kept { self.new.steps ≡ self.old.steps }
+        ensures ticks { at_last_mark work.new ≡ at_last_mark work.old }
     {
         match notice {
             Notice::Overflow => self.issue("General", "ovfl", &[], work),

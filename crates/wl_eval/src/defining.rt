@@ -12,6 +12,7 @@ ghost use Rattle.wl_eval.specs.Operands.{left_side, taken_answer};
 ghost use Rattle.wl_eval.specs.Played.{Honest, IsUnprotected, Plays, Sound};
 ghost use Rattle.wl_eval.specs.Prepared.{tagged_by_head, tagged_of};
 ghost use Rattle.wl_eval.specs.Prog as prog;
+ghost use Rattle.wl_eval.specs.Marks.{at_last_mark};
 
 use crate::applying::leftmost;
 use crate::elements::is_symbol;
@@ -76,6 +77,7 @@ impl Evaluator {
         requires name { IsName name.now }
         ensures played { IfOk result (λ _. Plays (definitions.write_message kind name.now (plain core.now)) self.old (Ok tt) self.new false) }
         ensures kept { self.new.steps ≡ self.old.steps }
+        ensures ticks { at_last_mark work.new ≡ at_last_mark work.old }
     {
         let subject = symbol(self.alloc, name)?;
         match kind {
@@ -95,6 +97,7 @@ impl Evaluator {
         ensures played { IfOk result (λ _. Plays (prog.message (codes "Set") (codes "write") (plain subject ∷ plain core.now ∷ []))
             self.old (Ok tt) self.new false) }
         ensures kept { self.new.steps ≡ self.old.steps }
+        ensures ticks { at_last_mark work.new ≡ at_last_mark work.old }
     {
         let args = [subject, core.copy()?];
         self.issue("Set", "write", &args, work)
@@ -117,6 +120,7 @@ impl Evaluator {
         ensures unprotected { IfOk result (λ b. b ≡ false → IsUnprotected name.now self.new) }
         ensures limits { IfOk result (λ b. b ≡ false → is_limit name.now ≡ true → allowed ≡ true) }
         ensures kept { self.new.steps ≡ self.old.steps }
+        ensures ticks { at_last_mark work.new ≡ at_last_mark work.old }
     {
         let is_protected = self.is_protected(name, work)?;
         if is_protected {
@@ -153,6 +157,7 @@ impl Evaluator {
         ensures played { IfOk result (λ b. Plays (definitions.defined kind name.now (left_side (plain left.now) (plain core.now))
             (plain body.now) (plain value.now) allowed) self.old (Ok b) self.new false) }
         ensures kept { self.new.steps ≡ self.old.steps }
+        ensures ticks { at_last_mark work.new ≡ at_last_mark work.old }
     {
         let is_refused = self.forbids(kind, name, core, value, allowed, work)?;
         if is_refused {
@@ -175,6 +180,7 @@ impl Evaluator {
         ensures played { IfOk result (λ b. Plays (definitions.refused_raw (plain core.now)) self.old (Ok b) self.new false) }
         ensures refused { IfOk result (λ b. b ≡ true) }
         ensures kept { self.new.steps ≡ self.old.steps }
+        ensures ticks { at_last_mark work.new ≡ at_last_mark work.old }
     {
         let first = leftmost(core);
         self.issue("Set", "setraw", slice::from_ref(first), work)?;
@@ -192,6 +198,7 @@ impl Evaluator {
         ensures played { IfOk result (λ b. Plays (definitions.refused_tag name.now (plain core.now)) self.old (Ok b) self.new false) }
         ensures refused { IfOk result (λ b. b ≡ true) }
         ensures kept { self.new.steps ≡ self.old.steps }
+        ensures ticks { at_last_mark work.new ≡ at_last_mark work.old }
     {
         let subject = symbol(self.alloc, name)?;
         let args = [subject, core.copy()?];
@@ -213,6 +220,7 @@ impl Evaluator {
         requires value { plain value.now ≡ tree.text text.now }
         ensures played { IfOk result (λ _. Plays (definitions.set_message name.now tag.now text.now) self.old (Ok tt) self.new false) }
         ensures kept { self.new.steps ≡ self.old.steps }
+        ensures ticks { at_last_mark work.new ≡ at_last_mark work.old }
     {
         let is_protected = self.is_protected(name, work)?;
         if is_protected {
@@ -241,6 +249,7 @@ impl Evaluator {
         ensures played { IfOk result (λ b. Plays (definitions.taken_away kind name.now (left_side (plain left.now) (plain core.now)))
             self.old (Ok (Some (taken_answer b))) self.new false) }
         ensures kept { self.new.steps ≡ self.old.steps }
+        ensures ticks { at_last_mark work.new ≡ at_last_mark work.old }
     {
         let null = null(self.alloc)?;
         let is_refused = self.forbids(kind, name, core, &null, false, work)?;

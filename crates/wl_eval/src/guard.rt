@@ -12,6 +12,7 @@ ghost use Rattle.wl_eval.specs.LocalNames.{scope_parts};
 ghost use Rattle.wl_eval.specs.Match as matching;
 ghost use Rattle.wl_eval.specs.Played.{AllHonest, Honest, Played, Sound, found_tree, trees};
 ghost use Rattle.wl_eval.specs.Searching.{needs_values, scope_body};
+ghost use Rattle.wl_eval.specs.Marks.{at_last_mark};
 
 use crate::elements::{is_form, is_symbol};
 use crate::ends::Stop;
@@ -152,6 +153,7 @@ impl Evaluator {
         ensures played { (n : ℕ) → 1001 * self.old.steps + depth (plain e.now) < n
             → Played found_tree (matching.guard_within n (plain e.now)) self.old result self.new }
         ensures falls { self.new.steps ≤ self.old.steps }
+        ensures ticks { at_last_mark work.new ≡ at_last_mark work.old }
     {
         if is_condition(e) {
             return self.condition_result(elements(e), work);

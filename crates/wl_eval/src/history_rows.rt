@@ -10,6 +10,7 @@ ghost use Rattle.wl_eval.specs.MessageRows as rows;
 ghost use Rattle.wl_eval.specs.Operands.{IsTextMade, as_message, name_and_text, only_int, only_message, out_line};
 ghost use Rattle.wl_eval.specs.Parts.{sized_row};
 ghost use Rattle.wl_eval.specs.Played.{Played, Sound, found_tree, trees};
+ghost use Rattle.wl_eval.specs.Marks.{at_last_mark};
 
 use crate::elements::is_symbol;
 use crate::ends::Stop;
@@ -138,7 +139,8 @@ impl Evaluator {
         tag: &str,
         work: &mut Work<L>,
     ) -> Option<Result<Expr, ExprFault>>
-        ensures { IsTextMade (message (definitions self.now.store name.now) tag.now) result }
+        ensures made { IsTextMade (message (definitions self.now.store name.now) tag.now) result }
+        ensures ticks { at_last_mark work.new ≡ at_last_mark work.old }
     {
         let Some(entry) = self.store.consult(name, work) else {
             return None;
@@ -165,6 +167,7 @@ impl Evaluator {
     ) -> Result<Option<Expr>, Stop>
         ensures played { Played found_tree (sized_row (rows.message_row (trees args.now))) self.old result self.new }
         ensures falls { self.new.steps ≤ self.old.steps }
+        ensures ticks { at_last_mark work.new ≡ at_last_mark work.old }
     {
         let Some((first, rest)) = args.split_first() else {
             return Ok(None);
@@ -213,6 +216,7 @@ impl Evaluator {
         requires sound { Sound self.old }
         ensures played { Played found_tree (sized_row (rows.message_name_row (trees args.now))) self.old result self.new }
         ensures falls { self.new.steps ≤ self.old.steps }
+        ensures ticks { at_last_mark work.new ≡ at_last_mark work.old }
     {
         let Some((name, tag)) = name_and_text(args) else {
             return Ok(None);

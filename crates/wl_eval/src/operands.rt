@@ -14,6 +14,7 @@ ghost use Rattle.wl_eval.specs.Played.{Honest, Makes, Played, found_tree, trees}
 ghost use Rattle.wl_eval.specs.Prepared.{name_and_one, name_and_two, only_tree};
 ghost use Rattle.wl_eval.specs.Replacing.{pair};
 ghost use Rattle.std.specs.Prelude.{Some, None};
+ghost use Rattle.wl_eval.specs.Marks.{at_last_mark};
 
 use crate::elements::is_symbol;
 use crate::ends::Stop;
@@ -181,6 +182,7 @@ impl Evaluator {
         requires honest { IfOk made (Honest self.old) }
         ensures played { (t : Tree) → Makes t made → Played found_tree (sized_result (Some t)) self.old result self.new }
         ensures kept { self.new.steps ≡ self.old.steps }
+        ensures ticks { at_last_mark work.new ≡ at_last_mark work.old }
     {
         let e = self.fitted(made, work)?;
         Ok(Some(e))

@@ -9,6 +9,7 @@ ghost use Rattle.wl_eval.specs.Honest.{HonestRule};
 ghost use Rattle.wl_eval.specs.Match as matching;
 ghost use Rattle.wl_eval.specs.Played.{AllHonest, AllHonestRules, Honest, Played, Sound, found_tree};
 ghost use Rattle.wl_eval.specs.Searching.{HonestView};
+ghost use Rattle.wl_eval.specs.Marks.{at_last_mark};
 
 use crate::ends::Stop;
 use crate::evaluator::Evaluator;
@@ -34,6 +35,7 @@ impl Evaluator {
         requires honest { Honest self.old e.now }
         ensures played { Played found_tree (matching.trial (map plain_rule rules.now) (plain e.now)) self.old result self.new }
         ensures falls { self.new.steps ≤ self.old.steps }
+        ensures ticks { at_last_mark work.new ≡ at_last_mark work.old }
     {
         for i in 0..rules.len() {
             let Some(rule) = rules.at(i) else {
@@ -83,6 +85,7 @@ impl Evaluator {
         requires honest { Honest self.old e.now }
         ensures played { Played found_tree (matching.rule_result (plain_rule rule.now) (plain e.now)) self.old result self.new }
         ensures falls { self.new.steps ≤ self.old.steps }
+        ensures ticks { at_last_mark work.new ≡ at_last_mark work.old }
     {
         let flags = self.flags_of(&rule.left, work)?;
         if matches_itself(&rule.left, flags.as_slice()) && !rule.left.same(e) {
@@ -108,6 +111,7 @@ impl Evaluator {
         requires body { Honest self.old body.now }
         ensures played { Played found_tree (matching.walk (matching.filling (plain body.now)) (Trials (whole pattern.now) (plain e.now))) self.old result self.new }
         ensures falls { self.new.steps ≤ self.old.steps }
+        ensures ticks { at_last_mark work.new ≡ at_last_mark work.old }
     {
         let mut machine = Machine::start(self.alloc);
         'bindings: loop {
@@ -136,6 +140,7 @@ impl Evaluator {
         requires body { Honest self.old body.now }
         ensures played { Played found_tree (matching.filling (plain body.now) (trail_in view.now)) self.old result self.new }
         ensures falls { self.new.steps ≤ self.old.steps }
+        ensures ticks { at_last_mark work.new ≡ at_last_mark work.old }
     {
         let _steps = self.steps;
         let holds = self.tests_hold(view, work)?;

@@ -188,6 +188,7 @@ built_in-returns-in_default g t c =
     record {
       played = (subst (λ p. Plays p c.args.self.now (Ok None) c.args.self.now false) (sym (built_in-none _ (no_node _ _ _ c.view.ensures.all c.in_default.not-Node))) plays_done, tt);
       falls = omega arith;
+      ticks = refl;
     }
 
 pub built_in-row-requires : goal.built_in-row-requires
@@ -229,6 +230,7 @@ elements-loop-i-preserved-then-stays_held g t c =
       inside = subst (λ z. AtEvaluated (Inside l.self l.self.depth) a [] (from_list z)) (sym p) (evaluated_push (Inside l.self l.self.depth) a [] before x l.invariant.inside (unless_held _ a.hold_all_complete _ h));
       count = omega (arith, ap length p, length-append before (x ∷ []), l.invariant.count);
       falls = l.invariant.falls;
+      ticks = cc;
     }
 
 pub elements-returns-in_err-value-clause-played : goal.elements-returns-in_err-value-clause-played
@@ -268,6 +270,7 @@ elements-loop-i-preserved g t c =
       inside = subst (λ z. AtEvaluated (Inside k1 k1.depth) a [] (from_list z)) (sym p) (evaluated_push (Inside k1 k1.depth) a [] before y (evaluated_later v.0 a [] before l.invariant.values l.invariant.inside) (unless_given a.hold_all_complete _ v.1.1));
       count = omega (arith, ap length p, length-append before (y ∷ []), l.invariant.count);
       falls = omega (arith, c.in_ok-value.ensures.falls, l.invariant.falls);
+      ticks = cc;
     }
 
 pub elements-returns-clause-played : goal.elements-returns-clause-played
@@ -587,6 +590,7 @@ turns-loop-self-preserved g t c =
       sound = w.0.sound (marked_sound l.count l.self l.invariant.sound);
       honest = w.1;
       falls = let e = ap (λ (z : Evaluator). z.steps) c.note_turn.ensures in omega (arith, e, c.in-Ok-Next.ensures.falls, l.invariant.falls);
+      ticks = c.stepped_turn.ensures.ticks ∙ l.invariant.ticks;
     }
 
 -- ---- up values
@@ -605,6 +609,7 @@ up_values-loop-i-preserved-in_default g t c =
       sound = l.invariant.sound;
       honest = l.invariant.honest;
       falls = l.invariant.falls;
+      ticks = cc;
     }
 
 pub up_values-returns-in_err-found-clause-played : goal.up_values-returns-in_err-found-clause-played
@@ -640,6 +645,7 @@ up_values-loop-i-preserved g t c =
       sound = v.0.sound l.invariant.sound;
       honest = later v.0 _ l.invariant.honest;
       falls = omega (arith, c.in_ok-found.ensures.falls, l.invariant.falls);
+      ticks = cc;
     }
 
 pub up_values-returns-clause-played : goal.up_values-returns-clause-played
@@ -701,6 +707,7 @@ each_applies-loop-i-preserved g t c =
       function = later h.0 f l.invariant.function;
       elements = all_later h.0 xs l.invariant.elements;
       falls = omega arith;
+      ticks = cc;
     }
 
 pub each_applies-returns-clause-played : goal.each_applies-returns-clause-played
@@ -801,6 +808,7 @@ tests_hold-loop-k-init g t c =
       sound = c.requires.sound;
       view = c.requires.view;
       falls = le_refl _;
+      ticks = refl;
     }
 
 pub tests_hold-returns-in-None-clause-played : goal.tests_hold-returns-in-None-clause-played
@@ -836,6 +844,7 @@ tests_hold-loop-k-preserved g t c =
       sound = h.sound k.invariant.sound;
       view = (later h _ k.invariant.view.0, all_later h _ k.invariant.view.1);
       falls = omega arith;
+      ticks = cc;
     }
 
 -- ---- a match
@@ -851,6 +860,7 @@ has_match-bindings-init g t c =
       pattern = c.requires.pattern;
       honest = c.requires.honest;
       falls = le_refl _;
+      ticks = refl;
     }
 
 pub has_match-returns-in_err-found-clause-played : goal.has_match-returns-in_err-found-clause-played
@@ -922,6 +932,7 @@ has_match-bindings-preserved g t c =
       pattern = all_later p _ (all_later h _ b.invariant.pattern);
       honest = later p _ (later h _ b.invariant.honest);
       falls = omega arith;
+      ticks = cc;
     }
 
 pub matches-has_match-requires : goal.matches-has_match-requires
@@ -1039,6 +1050,7 @@ first_filling-bindings-init g t c =
       honest = c.requires.honest;
       body = c.requires.body;
       falls = le_refl _;
+      ticks = refl;
     }
 
 pub first_filling-returns-in_err-found-clause-played : goal.first_filling-returns-in_err-found-clause-played
@@ -1117,6 +1129,7 @@ first_filling-bindings-preserved g t c =
       honest = later filled.0 _ (later h _ b.invariant.honest);
       body = later filled.0 _ (later h _ b.invariant.body);
       falls = omega arith;
+      ticks = cc;
     }
 
 pub rule_result-first_filling-requires : goal.rule_result-first_filling-requires
@@ -1160,6 +1173,7 @@ trial-loop-i-preserved g t c =
       rules = rules_later h _ l.invariant.rules;
       honest = later h _ l.invariant.honest;
       falls = omega arith;
+      ticks = cc;
     }
 
 pub trial-returns-clause-played : goal.trial-returns-clause-played

@@ -33,6 +33,7 @@ use Rattle.wl_eval.specs.Replies.{Holds, Proceeds, Ready, set_aside, told_by}
 use Rattle.wl_expr.specs.Tree.{depth}
 use Rattle.wl_eval.specs.LocalNames.{AreLocals, AreShallow, locals_in}
 use Rattle.wl_eval.specs.Scoping as scoping
+use Rattle.wl_eval.specs.Marks.{at_last_mark}
 use Rattle.wl_eval.proofs.evaluator.Evaluator.+eval.Given as goal
 
 -- ---- what takes no step of its own stands below what it may be called from; a turn has taken a step
@@ -135,6 +136,7 @@ invariant-turns-loop-self g l = record {
   sound : Sound l.self;
   honest : Honest l.self l.subject;
   falls : l.self.steps ≤ l.fn.self.steps;
+  ticks : at_last_mark l.work ≡ at_last_mark l.fn.work;
 }
 
 abbrev pub decreases-turns-loop-self : goal.decreases-turns-loop-self
@@ -149,6 +151,7 @@ invariant-elements-loop-i g l = record {
   inside : AtEvaluated (Inside l.self l.self.depth) l.attributes [] (from_list l.values.items);
   count : length l.values.items ≡ l.i;
   falls : l.self.steps ≤ l.fn.self.steps;
+  ticks : at_last_mark l.work ≡ at_last_mark l.fn.work;
 }
 
 abbrev pub invariant-up_values-loop-i : goal.invariant-up_values-loop-i
@@ -157,6 +160,7 @@ invariant-up_values-loop-i g l = record {
   sound : Sound l.self;
   honest : Honest l.self l.form;
   falls : l.self.steps ≤ l.fn.self.steps;
+  ticks : at_last_mark l.work ≡ at_last_mark l.fn.work;
 }
 
 abbrev pub invariant-trial-loop-i : goal.invariant-trial-loop-i
@@ -166,6 +170,7 @@ invariant-trial-loop-i g l = record {
   rules : AllHonestRules l.self l.rules;
   honest : Honest l.self l.e;
   falls : l.self.steps ≤ l.fn.self.steps;
+  ticks : at_last_mark l.work ≡ at_last_mark l.fn.work;
 }
 
 abbrev pub invariant-first_filling-bindings : goal.invariant-first_filling-bindings
@@ -177,6 +182,7 @@ invariant-first_filling-bindings g l = record {
   honest : Honest l.self l.e;
   body : Honest l.self l.body;
   falls : l.self.steps ≤ l.fn.self.steps;
+  ticks : at_last_mark l.work ≡ at_last_mark l.fn.work;
 }
 
 abbrev pub decreases-first_filling-bindings : goal.decreases-first_filling-bindings
@@ -190,6 +196,7 @@ invariant-has_match-bindings g l = record {
   pattern : AllHonest l.self (kept l.pattern);
   honest : Honest l.self l.e;
   falls : l.self.steps ≤ l.fn.self.steps;
+  ticks : at_last_mark l.work ≡ at_last_mark l.fn.work;
 }
 
 abbrev pub decreases-has_match-bindings : goal.decreases-has_match-bindings
@@ -201,6 +208,7 @@ invariant-tests_hold-loop-k g l = record {
   sound : Sound l.self;
   view : HonestView l.self l.view;
   falls : l.self.steps ≤ l.fn.self.steps;
+  ticks : at_last_mark l.work ≡ at_last_mark l.fn.work;
 }
 
 abbrev pub invariant-each_applies-loop-i : goal.invariant-each_applies-loop-i
@@ -210,6 +218,7 @@ invariant-each_applies-loop-i g l = record {
   function : Honest l.self l.f;
   elements : AllHonest l.self l.elements;
   falls : l.self.steps ≤ l.fn.self.steps;
+  ticks : at_last_mark l.work ≡ at_last_mark l.fn.work;
 }
 
 -- ---- definitions
