@@ -275,6 +275,19 @@ node_honest k g es us r q h m a =
 
 -- ---- DeleteCases
 
+-- of another number of elements than two it stays
+pub delete_one : (x : Tree) → delete_cases_row (x ∷ []) ≡ unchanged
+delete_one (num n) = refl
+delete_one (text s) = refl
+delete_one (symbol x) = refl
+delete_one (node h ts) = refl
+
+pub delete_many : (x y z : Tree) (ts : List Tree) → delete_cases_row (x ∷ y ∷ z ∷ ts) ≡ unchanged
+delete_many (num n) y z ts = refl
+delete_many (text s) y z ts = refl
+delete_many (symbol x) y z ts = refl
+delete_many (node h us) y z ts = refl
+
 pub delete_atom : (e p : Tree) → ((h : Tree) (ts : Trees) → e ≡ node h ts → ⊥) → delete_cases_row (e ∷ p ∷ []) ≡ result e
 delete_atom (num n) p f = refl
 delete_atom (text s) p f = refl

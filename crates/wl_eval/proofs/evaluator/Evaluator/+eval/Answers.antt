@@ -49,12 +49,14 @@ use Rattle.wl_eval.proofs.Matches.{all_view_honest, asks_applies, asks_holds, as
 use Rattle.wl_expr.specs.Tree as tree
 use Rattle.wl_expr.proofs.Small.{fits_decides}
 use Rattle.wl_eval.specs.MatchRows as match_rows
-use Rattle.wl_eval.specs.Replacing.{found_trees}
+use Rattle.wl_expr.specs.Words.{list_of}
+use Rattle.wl_eval.specs.Honest.{HonestOption}
+use Rattle.wl_eval.specs.Replacing.{found_trees, sifted}
 use Rattle.wl_eval.proofs.MatchRowParts.{any_at, any_none, args_depth, element_depth, listed_honest, node_honest, pair_honest, rule_honest, cases_at, cases_leads, cases_over, count_at, count_over, delete_atom, delete_node, elements_over, leads_to, nothing_more, one_more, pair_is, pair_row, pair_stays, part_at, part_is, part_leads, part_node, part_none, row_exit, row_truth, sifted_at, sifted_leads, sifted_over}
 use Rattle.wl_eval.proofs.RowParts.{row_at, row_gives, row_made}
 use Rattle.wl_expr.proofs.Small.{fits_decides}
 use Rattle.wl_eval.proofs.MatchRowParts.{head_depth}
-use Rattle.wl_eval.proofs.MatchRowParts.{row_count}
+use Rattle.wl_eval.proofs.MatchRowParts.{row_count, delete_one, delete_many}
 use Rattle.wl_eval.proofs.evaluator.Evaluator.+eval.Goals as goal
 
 -- ---- which rule applies
@@ -1435,7 +1437,7 @@ match_row-matches-requires g t c κs within =
 pub match_row-returns-clause-played : goal.match_row-returns-clause-played
 match_row-returns-clause-played g t c =
     let h = (c.in_ok-found.ensures.played (2 ^ 64) (omega arith)).0 in
-    pair_row found_tree match_rows.match_row c.args.args.now c.in-Some.e.now c.in-Some.p.now _ _ _ c.in-Some.ensures (row_truth _ (λ b. b) _ _ c.in_ok-found.found c.in_ok-truth.field-0 h c.in_ok-truth.ensures)
+    pair_row found_tree match_rows.match_row c.args.args.now c.in-Some.e.now c.in-Some.p.now c.args.self.now (Ok (Some c.in_ok-truth.field-0)) c.matches.new.self c.in-Some.ensures (row_truth _ (λ b. b) _ _ c.in_ok-found.found c.in_ok-truth.field-0 h c.in_ok-truth.ensures)
 
 pub member_row-returns-in_default-clause-played : goal.member_row-returns-in_default-clause-played
 member_row-returns-in_default-clause-played g t c = pair_stays match_rows.member_row c.args.args.now c.args.self.now c.in_default.ensures refl (λ x. refl) (λ x y z ts. refl)
@@ -1452,7 +1454,7 @@ member_row-returns-clause-played g t c =
     let e = c.in-Some.e.now in
     let p = c.in-Some.p.now in
     let h = subst (λ ts. Plays (match_rows.any_matches (plain p) ts) c.args.self.now (Ok c.in_ok-found.found) c.any_matches.new.self false) c.elements.ensures.value c.in_ok-found.ensures.played.0 in
-    pair_row found_tree match_rows.member_row c.args.args.now e p _ _ _ c.in-Some.ensures (row_truth _ (λ b. b) _ _ c.in_ok-found.found c.in_ok-truth.field-0 h c.in_ok-truth.ensures)
+    pair_row found_tree match_rows.member_row c.args.args.now e p c.args.self.now (Ok (Some c.in_ok-truth.field-0)) c.any_matches.new.self c.in-Some.ensures (row_truth _ (λ b. b) _ _ c.in_ok-found.found c.in_ok-truth.field-0 h c.in_ok-truth.ensures)
 
 pub count_row-returns-in_default-clause-played : goal.count_row-returns-in_default-clause-played
 count_row-returns-in_default-clause-played g t c = pair_stays match_rows.count_row c.args.args.now c.args.self.now c.in_default.ensures refl (λ x. refl) (λ x y z ts. refl)
@@ -1469,13 +1471,13 @@ count_row-returns-clause-played g t c =
     let e = c.in-Some.e.now in
     let p = c.in-Some.p.now in
     let h = subst (λ ts. Plays (match_rows.count_matching 0 (plain p) ts) c.args.self.now (Ok c.in_ok-count.count) c.count_matching.new.self false) c.elements.ensures.value c.in_ok-count.ensures.played.0 in
-    pair_row found_tree match_rows.count_row c.args.args.now e p _ _ _ c.in-Some.ensures (row_count _ _ _ c.in_ok-count.count c.in_ok-natural.field-0 h c.in_ok-natural.ensures)
+    pair_row found_tree match_rows.count_row c.args.args.now e p c.args.self.now (Ok (Some c.in_ok-natural.field-0)) c.count_matching.new.self c.in-Some.ensures (row_count _ _ _ c.in_ok-count.count c.in_ok-natural.field-0 h c.in_ok-natural.ensures)
 
 pub cases_row-returns-in_default-clause-played : goal.cases_row-returns-in_default-clause-played
 cases_row-returns-in_default-clause-played g t c = pair_stays match_rows.cases_row c.args.args.now c.args.self.now c.in_default.ensures refl (λ x. refl) (λ x y z ts. refl)
 
 pub delete_cases_row-returns-in_default-clause-played : goal.delete_cases_row-returns-in_default-clause-played
-delete_cases_row-returns-in_default-clause-played g t c = pair_stays match_rows.delete_cases_row c.args.args.now c.args.self.now c.in_default.ensures refl (λ x. refl) (λ x y z ts. refl)
+delete_cases_row-returns-in_default-clause-played g t c = pair_stays match_rows.delete_cases_row c.args.args.now c.args.self.now c.in_default.ensures refl delete_one delete_many
 
 pub delete_cases_row-returns-in_default-view-clause-played : goal.delete_cases_row-returns-in_default-view-clause-played
 delete_cases_row-returns-in_default-view-clause-played g t c =
@@ -1485,7 +1487,7 @@ delete_cases_row-returns-in_default-view-clause-played g t c =
     let h = pair_honest k c.args.args.now e p c.in-Some.ensures c.requires.args in
     let q = delete_atom (plain e) (plain p) (no_node _ _ _ c.view.ensures.all c.in_default-view.not-Node) in
     subst (λ z. Played found_tree (sized_row (match_rows.delete_cases_row (trees c.args.args.now))) k (Ok (Some z)) k) (sym c.in_ok-copy.ensures)
-    (pair_row found_tree match_rows.delete_cases_row c.args.args.now e p _ _ _ c.in-Some.ensures (row_at _ _ _ _ _ q (row_gives _ _ _ e plays_done ((fits_decides (plain e)).1 c.view.ensures.fits) h.0)))
+    (pair_row found_tree match_rows.delete_cases_row c.args.args.now e p k (Ok (Some e)) k c.in-Some.ensures (row_at _ _ k (Ok (Some e)) k q (row_gives (prog.result (plain e)) k k e plays_done ((fits_decides (plain e)).1 c.view.ensures.fits) h.0)))
 
 pub free_row-returns-in_default-clause-played : goal.free_row-returns-in_default-clause-played
 free_row-returns-in_default-clause-played g t c = pair_stays match_rows.free_row c.args.args.now c.args.self.now c.in_default.ensures refl (λ x. refl) (λ x y z ts. refl)
@@ -1501,4 +1503,4 @@ free_row-returns-in_err-found-clause-played g t c =
 
 pub free_row-returns-clause-played : goal.free_row-returns-clause-played
 free_row-returns-clause-played g t c =
-    pair_row found_tree match_rows.free_row c.args.args.now c.in-Some.e.now c.in-Some.p.now _ _ _ c.in-Some.ensures (row_truth _ not _ _ c.in_ok-found.found c.in_ok-truth.field-0 c.in_ok-found.ensures.played.0 c.in_ok-truth.ensures)
+    pair_row found_tree match_rows.free_row c.args.args.now c.in-Some.e.now c.in-Some.p.now c.args.self.now (Ok (Some c.in_ok-truth.field-0)) c.any_part.new.self c.in-Some.ensures (row_truth _ not _ _ c.in_ok-found.found c.in_ok-truth.field-0 c.in_ok-found.ensures.played.0 c.in_ok-truth.ensures)

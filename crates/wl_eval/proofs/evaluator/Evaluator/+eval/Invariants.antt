@@ -15,10 +15,11 @@ use Rattle.wl_eval.specs.declared.ends.End.{End}
 use Rattle.wl_eval.specs.declared.ends.Stop.{Stop}
 use Rattle.wl_eval.specs.declared.evaluator.Evaluator.{Evaluator}
 use Rattle.wl_eval.proofs.Bindings.{all_tests, test_within}
+use Rattle.wl_expr.specs.Tree as tree
 use Rattle.wl_expr.specs.Tree.{depth, depths}
 use Rattle.wl_eval.specs.MatchRows as match_rows
 use Rattle.std.proofs.Common.{Some, option_map, take}
-use Rattle.wl_eval.specs.Replacing.{each_of, sifted}
+use Rattle.wl_eval.specs.Replacing.{sifted}
 use Rattle.wl_eval.specs.Honest.{HonestRule}
 use Rattle.wl_eval.proofs.evaluator.Evaluator.+eval.Given as goal
 
