@@ -43,3 +43,4 @@ mod HistoryRowParts
 mod DefiningParts
 mod MatchRowParts
 mod ReadRules
+mod SlotParts

@@ -36,6 +36,7 @@ pub mod Kinds
 pub mod Parts
 pub mod Operands
 pub mod Replacing
+pub mod Slots
 -- Sessions that are computed.
 pub mod Cells
 pub mod WorkedCells

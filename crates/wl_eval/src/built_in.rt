@@ -9,7 +9,6 @@ ghost use Rattle.wl_eval.specs.Parts.{Answers, HonestApplied, sized_row};
 ghost use Rattle.wl_eval.specs.Played.{AllHonest, Honest, Played, Plays, Sound, found_tree, trees};
 ghost use Rattle.wl_eval.specs.PureRows as pure;
 
-use crate::elements::is_form;
 use crate::ends::Stop;
 use crate::evaluator::Evaluator;
 use crate::kind::Kind;
@@ -48,11 +47,7 @@ impl Evaluator {
         if let Look::Symbol(name) = head.view() {
             return self.row(name, args, work);
         }
-        // Functions come here.
-        if is_form(head, "Function") {
-            return Err(Stop::Memory);
-        }
-        Ok(None)
+        self.function_row(head, args, work)
     }
 
     /// The result of the row of a name, where it has one.

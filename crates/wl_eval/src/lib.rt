@@ -10,6 +10,7 @@ mod ends;
 mod entry_rows;
 mod evaluation;
 mod evaluator;
+mod function;
 mod guard;
 mod history_rows;
 mod kind;

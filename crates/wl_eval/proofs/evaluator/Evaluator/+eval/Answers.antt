@@ -34,7 +34,7 @@ use Rattle.wl_eval.proofs.Tables.{row_algebra, row_lists, row_special, row_none,
 use Rattle.wl_eval.proofs.Notices.{algebra_notices, lists_notices}
 use Rattle.wl_eval.proofs.Answering.{algebra_answers, lists_answers, algebra_honest, lists_honest}
 use Rattle.wl_eval.proofs.Shapes.{stays_plays, HonestShaped, shaped_honest, shape_stops, shape_is, threaded_plays, uneven_plays}
-use Rattle.wl_eval.proofs.Rounds.{no_symbol, no_node, node_makes, node_is, or_found, or_next, or_plays, no_rules, head_values-is, tried_at, up_named, up_unnamed, up_over, up_values-held, up_values-tried, built_in-node, built_in-none, plays_no_built_in, evaluated-held, evaluated-each, evaluated-value, evaluated-kept, evaluated-over, trees_push, turned_played, final_is, final_honest, turn_symbol, leaf_turn, symbol_back, node_turned}
+use Rattle.wl_eval.proofs.Rounds.{no_symbol, no_node, node_makes, node_is, or_found, or_next, or_plays, no_rules, head_values-is, tried_at, up_named, up_unnamed, up_over, up_values-held, up_values-tried, built_in-node, built_in-none, evaluated-held, evaluated-each, evaluated-value, evaluated-kept, evaluated-over, trees_push, turned_played, final_is, final_honest, turn_symbol, leaf_turn, symbol_back, node_turned}
 use Rattle.std.specs.List.{All}
 use Rattle.wl_match.specs.Left.{left, binding}
 use Rattle.wl_match.specs.Parts.{kept, whole}
@@ -57,6 +57,7 @@ use Rattle.wl_eval.proofs.RowParts.{row_at, row_gives, row_made}
 use Rattle.wl_expr.proofs.Small.{fits_decides}
 use Rattle.wl_eval.proofs.MatchRowParts.{head_depth}
 use Rattle.wl_eval.proofs.MatchRowParts.{row_count, delete_one, delete_many}
+use Rattle.wl_eval.proofs.SlotParts.{built_in-function}
 use Rattle.wl_eval.proofs.evaluator.Evaluator.+eval.Goals as goal
 
 -- ---- which rule applies
@@ -131,7 +132,11 @@ built_in-returns-in-Symbol-clause-played g t c =
 
 pub built_in-returns-clause-played : goal.built_in-returns-clause-played
 built_in-returns-clause-played g t c =
-    (plays_no_built_in (plain c.in-Node.head.now) _ _ c.args.self.now c.in-Node.ensures.plain (no_symbol _ _ _ c.view-2.ensures.all c.in_default-view.not-Symbol) (sym c.is_form.ensures ∙ c.if-is_form.false), tt)
+    let es = c.in-Node.args.now in
+    let h = plain c.in-Node.head.now in
+    let q = ap (λ us. node h us) (sym (plains_trees es)) ∙ c.in-Node.ensures.plain in
+    subst (λ p. Played found_tree p c.args.self.now c.function_row.result c.function_row.new.self) (sym (built_in-function h (trees es) (plain c.args.form.now) q (no_symbol _ _ _ c.view-2.ensures.all c.in_default-view.not-Symbol)))
+    c.function_row.ensures.played
 
 -- ---- elements
 
