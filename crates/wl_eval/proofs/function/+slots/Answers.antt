@@ -1,10 +1,9 @@
-use Rattle.std.proofs.Common.{rules, ◌≡◌, ◌+◌, ◌++◌, ◌∷◌, [], Some, None, true, false, map, take, refl, sym, ap, ◌∙◌, subst, arith}
+use Rattle.std.proofs.Common.{◌≡◌, ◌++◌, ◌∷◌, [], map, take, sym, ap, ◌∙◌, subst, arith}
 use Rattle.std.proofs.lemmas.List.{take_all}
 use Rattle.std.specs.Prelude.{option_map, unwrap_or}
 use Rattle.wl_expr.proofs.Small.{small_head, small_args}
-use Rattle.wl_expr.specs.Stamped.{plain, plains, from_list}
-use Rattle.wl_expr.specs.Tree as tree
-use Rattle.wl_expr.specs.Tree.{IsWithinLimits, node}
+use Rattle.wl_expr.specs.Stamped.{plain}
+use Rattle.wl_expr.specs.Tree.{IsWithinLimits}
 use Rattle.wl_shape.specs.Answers.{AllFrom}
 use Rattle.wl_shape.specs.Renewed.{IsRenewed}
 use Rattle.wl_eval.specs.Played.{trees}

@@ -1,4 +1,4 @@
-use Rattle.std.proofs.Common.{sym, ap, arith, length}
+use Rattle.std.proofs.Common.{sym, ap, arith}
 use Rattle.std.proofs.lemmas.List.{length-map}
 use Rattle.wl_expr.specs.Stamped.{plain}
 use Rattle.wl_eval.specs.Played.{trees}

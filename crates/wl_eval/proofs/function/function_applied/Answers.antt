@@ -1,11 +1,9 @@
-use Rattle.std.proofs.Common.{rules, ◌≡◌, ◌∷◌, [], Some, None, Ok, Err, true, false, length, refl, sym, ap, ◌∙◌, subst, arith}
+use Rattle.std.proofs.Common.{sym, ◌∙◌, subst, arith}
 use Rattle.wl_expr.proofs.Items.{one_item, two_items}
 use Rattle.wl_expr.specs.Stamped.{plain}
-use Rattle.wl_shape.specs.Given.{DoesNotFit}
 use Rattle.wl_eval.specs.Played.{trees}
-use Rattle.wl_eval.specs.ScopeRows.{function_applied, with_slots}
 use Rattle.wl_eval.specs.Slots.{IsGiven}
-use Rattle.wl_eval.proofs.SlotParts.{body_given, fault_given, no_function, one_part, other_form, other_parts, two_parts}
+use Rattle.wl_eval.proofs.SlotParts.{no_function, one_part, other_form, other_parts, two_parts}
 use Rattle.wl_eval.proofs.Symbols.{no_node}
 use Rattle.wl_eval.proofs.function.function_applied.Goals as goal
 

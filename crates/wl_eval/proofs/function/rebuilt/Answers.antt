@@ -1,4 +1,4 @@
-use Rattle.std.proofs.Common.{Some, None, Ok, Err, sym, ap, subst, subst₂}
+use Rattle.std.proofs.Common.{Some, Ok, sym, ap, subst, subst₂}
 use Rattle.std.specs.Prelude.{unwrap_or}
 use Rattle.wl_expr.specs.Passed.{IsFrom}
 use Rattle.wl_expr.specs.Stamped.{plain}
