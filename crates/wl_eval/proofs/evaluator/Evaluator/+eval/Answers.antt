@@ -1296,6 +1296,12 @@ any_part-returns-then-in_head-clause-played g t c =
     let on = not_held _ _ _ _ _ _ _ h c.if-found.false (leads_to _ _ _ _ _ (part_is p e) (λ r k o m. m)) in
     (held _ _ _ _ _ _ _ c.in_ok-in_head.ensures.played.0 c.if-in_head.true (leads_to _ _ _ _ _ (part_node p e (plain c.in-Node.head.now) c.in-Node.args.now c.in-Node.ensures.plain) on), tt)
 
+pub any_part-any_part-requires : goal.any_part-any_part-requires
+any_part-any_part-requires g t c κs within =
+    let h = (c.in_ok-found.ensures.played (2 ^ 64) (omega arith)).0 in
+    let d = head_depth (plain c.in-Node.head.now) (plain c.args.e.now) c.in-Node.args.now c.in-Node.ensures.plain in
+    (omega (arith, d, c.in_ok-found.ensures.falls), (within, (h.sound c.requires.sound, (later h _ c.requires.pattern, later h _ (head_honest c.args.self.now.store _ _ _ _ c.in-Node.ensures.all c.requires.honest)))))
+
 pub any_part-any_part_in-requires : goal.any_part-any_part_in-requires
 any_part-any_part_in-requires g t c κs within =
     let h = (c.in_ok-found.ensures.played (2 ^ 64) (omega arith)).0 in
