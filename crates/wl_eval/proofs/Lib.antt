@@ -41,3 +41,5 @@ mod Symbols
 mod EntryRowParts
 mod HistoryRowParts
 mod DefiningParts
+mod MatchRowParts
+mod ReadRules

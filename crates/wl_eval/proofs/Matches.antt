@@ -70,7 +70,7 @@ found_some w p q k0 k k1 o x l h e =
     let m : Played found_tree p k (Ok (Some x)) k1 = subst (λ z. Played found_tree p k (Ok z) k1) e h in
     (leads_in w (p >>= λ a. or_else a q) p (λ a. or_else a q) k0 k k1 (Some (plain x)) l refl m.0 _ _ _ plays_done, m.1)
 
-no_some : (o : Option Stamped) → ((x : Stamped) → o ≡ Some x → ⊥) → o ≡ None
+pub no_some : (o : Option Stamped) → ((x : Stamped) → o ≡ Some x → ⊥) → o ≡ None
 no_some None h = refl
 no_some (Some x) h = absurd (h x refl)
 

@@ -35,6 +35,7 @@ pub mod Recall
 pub mod Kinds
 pub mod Parts
 pub mod Operands
+pub mod Replacing
 -- Sessions that are computed.
 pub mod Cells
 pub mod WorkedCells

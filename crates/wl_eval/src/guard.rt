@@ -89,7 +89,7 @@ fn scope_body(e: &Expr) -> Option<&Expr>
 }
 
 /// Whether the expression is a condition of two elements.
-fn is_condition(e: &Expr) -> bool
+pub(crate) fn is_condition(e: &Expr) -> bool
     ensures { result ≡ matching.is_condition (plain e.now) }
 {
     let Look::Node(head, args) = e.view() else {

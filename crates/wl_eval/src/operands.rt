@@ -6,6 +6,7 @@ ghost use Rattle.wl_expr.specs.Words.{list_of, names_of};
 ghost use Rattle.wl_ports.specs.Name.{IsName};
 ghost use Rattle.wl_eval.specs.BuiltIn.{sized_result};
 ghost use Rattle.wl_eval.specs.Operands.{listed, only_name, two_trees};
+ghost use Rattle.wl_eval.specs.Replacing.{pair};
 ghost use Rattle.wl_eval.specs.Played.{Honest, Makes, Played, found_tree, trees};
 ghost use Rattle.std.specs.Prelude.{Some, None};
 
@@ -32,6 +33,16 @@ pub(crate) fn only_symbol(args: &[Expr]) -> Option<&str>
 /// The two elements of a row.
 pub(crate) fn two(args: &[Expr]) -> Option<(&Expr, &Expr)>
     ensures { option_map (λ p. (plain p.0.now, plain p.1.now)) result ≡ two_trees (trees args.now) }
+{
+    match args {
+        [a, b] => Some((a, b)),
+        _ => None,
+    }
+}
+
+/// The two elements of a row, as they are.
+pub(crate) fn pair(args: &[Expr]) -> Option<(&Expr, &Expr)>
+    ensures { option_map (λ p. (p.0.now, p.1.now)) result ≡ pair args.now }
 {
     match args {
         [a, b] => Some((a, b)),

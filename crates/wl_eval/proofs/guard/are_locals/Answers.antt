@@ -1,5 +1,4 @@
 use Rattle.std.proofs.Common.{sym, ◌∙◌, arith}
-use Rattle.wl_expr.specs.Stamped.{plain}
 use Rattle.wl_eval.specs.Searching.{needs_values}
 use Rattle.wl_eval.proofs.Guarding.{locals_are, one_not_local, all_local}
 use Rattle.wl_eval.proofs.guard.are_locals.Goals as goal

@@ -1,4 +1,4 @@
-use Rattle.std.proofs.Common.{Bool, ◌||◌, sym, ap, ap₂, ◌∙◌}
+use Rattle.std.proofs.Common.{◌||◌, sym, ap, ◌∙◌}
 use Rattle.wl_expr.specs.Stamped.{plain}
 use Rattle.wl_eval.specs.Match as matching
 use Rattle.wl_eval.proofs.Guarding.{guarded_none, guarded_some}

@@ -1,5 +1,4 @@
 use Rattle.std.proofs.Common.{arith}
-use Rattle.wl_expr.specs.Stamped.{plain}
 use Rattle.wl_eval.proofs.Lent.{element_is, element_none}
 use Rattle.wl_eval.proofs.runs.element_at.Goals as goal
 

@@ -1,4 +1,4 @@
-use Rattle.std.proofs.Common.{List, drop, ◌∙◌, ap, sym}
+use Rattle.std.proofs.Common.{List, ◌∙◌, ap, sym}
 use Rattle.std.proofs.lemmas.List.{drop_all}
 use Rattle.std.specs.List.{list_any}
 use Rattle.std.specs.Prelude.{codes}

@@ -46,6 +46,17 @@ use Rattle.wl_shape.specs.Fill.{fill_binding}
 use Rattle.wl_eval.specs.Searching.{HonestView, found_by, next_binding, next_found, passes_within, refuses_within, tests_within, true_of_built}
 use Rattle.wl_eval.proofs.Bindings.{after_binding, after_tests, all_tests, if_so, or_more, passes_is, test_within, tests_is, tests_over, walk_is}
 use Rattle.wl_eval.proofs.Matches.{all_view_honest, asks_applies, asks_holds, asks_refuses, each_at, each_leads, each_over, exit, fill_on, filled_leads, filled_makes, filling_is, filling_leads, found_none, found_some, guard_on, guarded_leads, both_not, held, kept_honest, leads_in, leads_out, made_honest, match_found, match_over, matches_played, next_so, no_test, not_filled, not_held, not_so, one_makes, refuses_one, refuses_other, rule_played, sized_leads, test_found, tests_at, tests_begin, tests_end, trial_at, trial_leads, trial_over, unguarded, view_honest, walk_found, walk_over}
+use Rattle.wl_expr.specs.Tree as tree
+use Rattle.wl_expr.proofs.Small.{fits_decides}
+use Rattle.wl_eval.specs.MatchRows as match_rows
+use Rattle.wl_expr.specs.Words.{list_of}
+use Rattle.wl_eval.specs.Honest.{HonestOption}
+use Rattle.wl_eval.specs.Replacing.{found_trees, sifted}
+use Rattle.wl_eval.proofs.MatchRowParts.{any_at, any_none, args_depth, element_depth, listed_honest, node_honest, pair_honest, rule_honest, cases_at, cases_leads, cases_over, count_at, count_over, delete_atom, delete_node, elements_over, leads_to, nothing_more, one_more, pair_is, pair_row, pair_stays, part_at, part_is, part_leads, part_node, part_none, row_exit, row_truth, sifted_at, sifted_leads, sifted_over}
+use Rattle.wl_eval.proofs.RowParts.{row_at, row_gives, row_made}
+use Rattle.wl_expr.proofs.Small.{fits_decides}
+use Rattle.wl_eval.proofs.MatchRowParts.{head_depth}
+use Rattle.wl_eval.proofs.MatchRowParts.{row_count, delete_one, delete_many}
 use Rattle.wl_eval.proofs.evaluator.Evaluator.+eval.Goals as goal
 
 -- ---- which rule applies
@@ -1086,3 +1097,416 @@ trial-loop-i-preserved g t c =
 
 pub trial-returns-clause-played : goal.trial-returns-clause-played
 trial-returns-clause-played g t c = (c.loop-i.invariant.leads _ _ _ (trial_over c.args.rules.now c.loop-i.i (plain c.args.e.now) c.loop-i.self (omega arith)), tt)
+
+-- ---- rows of matches
+
+pub any_matches-returns-in_err-found-clause-played : goal.any_matches-returns-in_err-found-clause-played
+any_matches-returns-in_err-found-clause-played g t c =
+    let l = c.loop-i in
+    let x = c.index-elements-i.result in
+    leads_out itself itself _ _ _ _ _ _ _ _ _ l.invariant.leads (any_at (plain c.args.p.now) c.args.elements.now l.i x (omega arith) c.index-elements-i.is) c.from_residual.ensures.1 (c.in_err-found.ensures.played (2 ^ 64) (omega arith))
+
+pub any_matches-returns-then-found-clause-played : goal.any_matches-returns-then-found-clause-played
+any_matches-returns-then-found-clause-played g t c =
+    let l = c.loop-i in
+    let x = c.index-elements-i.result in
+    let h = (c.in_ok-found.ensures.played (2 ^ 64) (omega arith)).0 in
+    (held _ _ _ _ _ _ _ h c.if-found.true (leads_to _ _ _ _ _ (any_at (plain c.args.p.now) c.args.elements.now l.i x (omega arith) c.index-elements-i.is) l.invariant.leads), tt)
+
+pub any_matches-loop-i-preserved : goal.any_matches-loop-i-preserved
+any_matches-loop-i-preserved g t c =
+    let l = c.loop-i in
+    let x = c.index-elements-i.result in
+    let h = (c.in_ok-found.ensures.played (2 ^ 64) (omega arith)).0 in
+    record {
+      leads = not_held _ _ _ _ _ _ _ h c.if-found.false (leads_to _ _ _ _ _ (any_at (plain c.args.p.now) c.args.elements.now l.i x (omega arith) c.index-elements-i.is) l.invariant.leads);
+      sound = h.sound l.invariant.sound;
+      pattern = later h _ l.invariant.pattern;
+      elements = all_later h _ l.invariant.elements;
+      falls = omega arith;
+    }
+
+pub any_matches-returns-clause-played : goal.any_matches-returns-clause-played
+any_matches-returns-clause-played g t c =
+    let p = plain c.args.p.now in
+    (elements_over (match_rows.any_matches p) false c.args.elements.now c.loop-i.i _ _ _ (any_none p) (omega arith) c.loop-i.invariant.leads, tt)
+
+pub count_matching-returns-in_err-found-clause-played : goal.count_matching-returns-in_err-found-clause-played
+count_matching-returns-in_err-found-clause-played g t c =
+    let l = c.loop-i in
+    let x = c.index-elements-i.result in
+    leads_out itself itself _ _ _ _ _ _ _ _ _ l.invariant.leads (count_at l.count (plain c.args.p.now) c.args.elements.now l.i x (omega arith) c.index-elements-i.is) c.from_residual.ensures.1 (c.in_err-found.ensures.played (2 ^ 64) (omega arith))
+
+pub count_matching-loop-i-preserved-then-not-found : goal.count_matching-loop-i-preserved-then-not-found
+count_matching-loop-i-preserved-then-not-found g t c =
+    let l = c.loop-i in
+    let x = c.index-elements-i.result in
+    let h = (c.in_ok-found.ensures.played (2 ^ 64) (omega arith)).0 in
+    record {
+      leads = part_leads _ _ _ _ _ _ _ _ false h c.if-not-found.true (count_at l.count (plain c.args.p.now) c.args.elements.now l.i x (omega arith) c.index-elements-i.is) l.invariant.leads;
+      sound = h.sound l.invariant.sound;
+      pattern = later h _ l.invariant.pattern;
+      elements = all_later h _ l.invariant.elements;
+      few = omega arith;
+      falls = omega arith;
+    }
+
+pub count_matching-loop-i-preserved : goal.count_matching-loop-i-preserved
+count_matching-loop-i-preserved g t c =
+    let l = c.loop-i in
+    let x = c.index-elements-i.result in
+    let h = (c.in_ok-found.ensures.played (2 ^ 64) (omega arith)).0 in
+    record {
+      leads = part_leads _ _ _ _ _ _ _ _ true h c.if-not-found.false (count_at l.count (plain c.args.p.now) c.args.elements.now l.i x (omega arith) c.index-elements-i.is) l.invariant.leads;
+      sound = h.sound l.invariant.sound;
+      pattern = later h _ l.invariant.pattern;
+      elements = all_later h _ l.invariant.elements;
+      few = omega arith;
+      falls = omega arith;
+    }
+
+pub count_matching-returns-clause-played : goal.count_matching-returns-clause-played
+count_matching-returns-clause-played g t c =
+    let p = plain c.args.p.now in
+    let n = c.loop-i.count in
+    (elements_over (match_rows.count_matching n p) n c.args.elements.now c.loop-i.i _ _ _ (count_over n p) (omega arith) c.loop-i.invariant.leads, tt)
+
+pub sifted-returns-in_err-matches-clause-played : goal.sifted-returns-in_err-matches-clause-played
+sifted-returns-in_err-matches-clause-played g t c =
+    let l = c.loop-i in
+    let x = c.index-elements-i.result in
+    leads_out itself found_trees _ _ _ _ _ _ _ _ _ l.invariant.leads (sifted_at c.args.wanted (trees l.found.items) (plain c.args.p.now) c.args.elements.now l.i x (omega arith) c.index-elements-i.is) c.from_residual.ensures.1 (c.in_err-matches.ensures.played (2 ^ 64) (omega arith))
+
+pub sifted-loop-i-preserved-then-not-agrees : goal.sifted-loop-i-preserved-then-not-agrees
+sifted-loop-i-preserved-then-not-agrees g t c =
+    let l = c.loop-i in
+    let x = c.index-elements-i.result in
+    let before = l.found.items in
+    let h = (c.in_ok-matches.ensures.played (2 ^ 64) (omega arith)).0 in
+    record {
+      leads = sifted_leads c.args.wanted before before (plain c.args.p.now) c.args.elements.now l.i x _ _ _ _ c.in_ok-matches.matches false (omega arith) c.index-elements-i.is h (sym c.agrees.ensures ∙ c.if-not-agrees.true) refl l.invariant.leads;
+      sound = h.sound l.invariant.sound;
+      pattern = later h _ l.invariant.pattern;
+      elements = all_later h _ l.invariant.elements;
+      found = all_later h _ l.invariant.found;
+      falls = omega arith;
+    }
+
+pub sifted-loop-i-preserved : goal.sifted-loop-i-preserved
+sifted-loop-i-preserved g t c =
+    let l = c.loop-i in
+    let x = c.index-elements-i.result in
+    let before = l.found.items in
+    let k1 = c.matches.new.self in
+    let h = (c.in_ok-matches.ensures.played (2 ^ 64) (omega arith)).0 in
+    let p = c.in_ok-push.ensures.items ∙ ap (λ z. before ++ z ∷ []) c.in_ok-copy.ensures in
+    record {
+      leads = sifted_leads c.args.wanted before _ (plain c.args.p.now) c.args.elements.now l.i x _ _ _ _ c.in_ok-matches.matches true (omega arith) c.index-elements-i.is h (sym c.agrees.ensures ∙ c.if-not-agrees.false) (trees_push before _ x p) l.invariant.leads;
+      sound = h.sound l.invariant.sound;
+      pattern = later h _ l.invariant.pattern;
+      elements = all_later h _ l.invariant.elements;
+      found = subst (AllHonest k1) (sym p) (All-push (Honest k1) before x (all_later h _ l.invariant.found) (subst (Honest k1) (sym c.index-elements-i.is) (all_later h _ l.invariant.elements l.i x (omega arith))));
+      falls = omega arith;
+    }
+
+pub sifted-returns-clause-played : goal.sifted-returns-clause-played
+sifted-returns-clause-played g t c =
+    let p = plain c.args.p.now in
+    let l = c.loop-i in
+    let found = trees l.found.items in
+    (elements_over (sifted c.args.wanted found p) found c.args.elements.now l.i _ _ _ (sifted_over c.args.wanted found p) (omega arith) l.invariant.leads, l.invariant.found)
+
+pub cases_by-returns-in_err-result-clause-played : goal.cases_by-returns-in_err-result-clause-played
+cases_by-returns-in_err-result-clause-played g t c =
+    let l = c.loop-i in
+    let x = c.index-elements-i.result in
+    leads_out found_tree found_trees _ _ _ _ _ _ _ _ _ l.invariant.leads (cases_at (trees l.found.items) (plain_rule c.args.rule.now) c.args.elements.now l.i x (omega arith) c.index-elements-i.is) c.from_residual.ensures.1 c.in_err-result.ensures.played
+
+pub cases_by-loop-i-preserved-in_default : goal.cases_by-loop-i-preserved-in_default
+cases_by-loop-i-preserved-in_default g t c =
+    let l = c.loop-i in
+    let x = c.index-elements-i.result in
+    let before = l.found.items in
+    let h = c.in_ok-result.ensures.played.0 in
+    record {
+      leads = cases_leads before before (plain_rule c.args.rule.now) c.args.elements.now l.i x _ _ _ _ c.in_ok-result.result (omega arith) c.index-elements-i.is h (nothing_more before c.in_ok-result.result c.in_default.not-Some) l.invariant.leads;
+      sound = h.sound l.invariant.sound;
+      rule = (later h _ l.invariant.rule.0, later h _ l.invariant.rule.1);
+      elements = all_later h _ l.invariant.elements;
+      found = all_later h _ l.invariant.found;
+      falls = omega arith;
+    }
+
+pub cases_by-loop-i-preserved : goal.cases_by-loop-i-preserved
+cases_by-loop-i-preserved g t c =
+    let l = c.loop-i in
+    let x = c.index-elements-i.result in
+    let y = c.in-Some.result in
+    let before = l.found.items in
+    let k1 = c.rule_result.new.self in
+    let h = c.in_ok-result.ensures.played.0 in
+    let p = c.in_ok-push.ensures.items in
+    let honest = subst (HonestOption k1.store) c.in-Some.is c.in_ok-result.ensures.played.1 in
+    record {
+      leads = cases_leads before _ (plain_rule c.args.rule.now) c.args.elements.now l.i x _ _ _ _ c.in_ok-result.result (omega arith) c.index-elements-i.is h (one_more before _ c.in_ok-result.result y c.in-Some.is p) l.invariant.leads;
+      sound = h.sound l.invariant.sound;
+      rule = (later h _ l.invariant.rule.0, later h _ l.invariant.rule.1);
+      elements = all_later h _ l.invariant.elements;
+      found = subst (AllHonest k1) (sym p) (All-push (Honest k1) before y (all_later h _ l.invariant.found) honest);
+      falls = omega arith;
+    }
+
+pub cases_by-returns-clause-played : goal.cases_by-returns-clause-played
+cases_by-returns-clause-played g t c =
+    let r = plain_rule c.args.rule.now in
+    let l = c.loop-i in
+    let found = trees l.found.items in
+    (elements_over (match_rows.cases_by found r) found c.args.elements.now l.i _ _ _ (cases_over found r) (omega arith) l.invariant.leads, l.invariant.found)
+
+pub any_part-returns-in_err-found-clause-played : goal.any_part-returns-in_err-found-clause-played
+any_part-returns-in_err-found-clause-played g t c =
+    leads_out itself itself _ _ _ _ _ _ _ _ _ (λ r k o h. h) (part_is (plain c.args.p.now) (plain c.args.e.now)) c.from_residual.ensures.1 (c.in_err-found.ensures.played (2 ^ 64) (omega arith))
+
+pub any_part-returns-then-found-clause-played : goal.any_part-returns-then-found-clause-played
+any_part-returns-then-found-clause-played g t c =
+    let h = (c.in_ok-found.ensures.played (2 ^ 64) (omega arith)).0 in
+    (held _ _ _ _ _ _ _ h c.if-found.true (leads_to _ _ _ _ _ (part_is (plain c.args.p.now) (plain c.args.e.now)) (λ r k o m. m)), tt)
+
+pub any_part-returns-in_default-clause-played : goal.any_part-returns-in_default-clause-played
+any_part-returns-in_default-clause-played g t c =
+    let p = plain c.args.p.now in
+    let e = plain c.args.e.now in
+    let h = (c.in_ok-found.ensures.played (2 ^ 64) (omega arith)).0 in
+    let on = not_held _ _ _ _ _ _ _ h c.if-found.false (leads_to _ _ _ _ _ (part_is p e) (λ r k o m. m)) in
+    (on _ _ _ (subst (λ z. Plays z c.matches.new.self (Ok false) c.matches.new.self false) (sym (part_none p e (no_node _ _ _ c.view.ensures.all c.in_default.not-Node))) plays_done), tt)
+
+pub any_part-returns-in_err-in_head-clause-played : goal.any_part-returns-in_err-in_head-clause-played
+any_part-returns-in_err-in_head-clause-played g t c =
+    let p = plain c.args.p.now in
+    let e = plain c.args.e.now in
+    let h = (c.in_ok-found.ensures.played (2 ^ 64) (omega arith)).0 in
+    let on = not_held _ _ _ _ _ _ _ h c.if-found.false (leads_to _ _ _ _ _ (part_is p e) (λ r k o m. m)) in
+    leads_out itself itself _ _ _ _ _ _ _ _ _ on (part_node p e (plain c.in-Node.head.now) c.in-Node.args.now c.in-Node.ensures.plain) c.from_residual-in_err-in_head.ensures.1 c.in_err-in_head.ensures.played
+
+pub any_part-returns-then-in_head-clause-played : goal.any_part-returns-then-in_head-clause-played
+any_part-returns-then-in_head-clause-played g t c =
+    let p = plain c.args.p.now in
+    let e = plain c.args.e.now in
+    let h = (c.in_ok-found.ensures.played (2 ^ 64) (omega arith)).0 in
+    let on = not_held _ _ _ _ _ _ _ h c.if-found.false (leads_to _ _ _ _ _ (part_is p e) (λ r k o m. m)) in
+    (held _ _ _ _ _ _ _ c.in_ok-in_head.ensures.played.0 c.if-in_head.true (leads_to _ _ _ _ _ (part_node p e (plain c.in-Node.head.now) c.in-Node.args.now c.in-Node.ensures.plain) on), tt)
+
+pub any_part-any_part-requires : goal.any_part-any_part-requires
+any_part-any_part-requires g t c κs within =
+    let h = (c.in_ok-found.ensures.played (2 ^ 64) (omega arith)).0 in
+    let d = head_depth (plain c.in-Node.head.now) (plain c.args.e.now) c.in-Node.args.now c.in-Node.ensures.plain in
+    (omega (arith, d, c.in_ok-found.ensures.falls), (within, (h.sound c.requires.sound, (later h _ c.requires.pattern, later h _ (head_honest c.args.self.now.store _ _ _ _ c.in-Node.ensures.all c.requires.honest)))))
+
+pub any_part-any_part_in-requires : goal.any_part-any_part_in-requires
+any_part-any_part_in-requires g t c κs within =
+    let h = (c.in_ok-found.ensures.played (2 ^ 64) (omega arith)).0 in
+    let m = c.in_ok-in_head.ensures.played.0 in
+    let d = args_depth (plain c.in-Node.head.now) (plain c.args.e.now) c.in-Node.args.now c.in-Node.ensures.plain in
+    (omega (arith, d, c.in_ok-found.ensures.falls, c.in_ok-in_head.ensures.falls), (within, (m.sound (h.sound c.requires.sound), (later m _ (later h _ c.requires.pattern), all_later m _ (all_later h _ (args_honest c.args.self.now.store _ _ _ _ c.in-Node.ensures.all c.requires.honest))))))
+
+pub any_part-returns-clause-played : goal.any_part-returns-clause-played
+any_part-returns-clause-played g t c =
+    let p = plain c.args.p.now in
+    let e = plain c.args.e.now in
+    let h = (c.in_ok-found.ensures.played (2 ^ 64) (omega arith)).0 in
+    let on = not_held _ _ _ _ _ _ _ h c.if-found.false (leads_to _ _ _ _ _ (part_is p e) (λ r k o m. m)) in
+    leads_played itself _ _ _ _ _ _ (not_held _ _ _ _ _ _ _ c.in_ok-in_head.ensures.played.0 c.if-in_head.false (leads_to _ _ _ _ _ (part_node p e (plain c.in-Node.head.now) c.in-Node.args.now c.in-Node.ensures.plain) on)) c.any_part_in.ensures.played
+
+pub any_part_in-any_part-requires : goal.any_part_in-any_part-requires
+any_part_in-any_part-requires g t c κs within =
+    let l = c.loop-i in
+    let x = c.index-elements-i.result in
+    let d = element_depth c.args.elements.now l.i x (omega arith) c.index-elements-i.is in
+    (omega (arith, d, l.invariant.falls), (within, (l.invariant.sound, (l.invariant.pattern, subst (Honest l.self) (sym c.index-elements-i.is) (l.invariant.elements l.i x (omega arith))))))
+
+pub any_part_in-returns-in_err-found-clause-played : goal.any_part_in-returns-in_err-found-clause-played
+any_part_in-returns-in_err-found-clause-played g t c =
+    let l = c.loop-i in
+    let x = c.index-elements-i.result in
+    leads_out itself itself _ _ _ _ _ _ _ _ _ l.invariant.leads (part_at (plain c.args.p.now) c.args.elements.now l.i x (omega arith) c.index-elements-i.is) c.from_residual.ensures.1 c.in_err-found.ensures.played
+
+pub any_part_in-returns-then-found-clause-played : goal.any_part_in-returns-then-found-clause-played
+any_part_in-returns-then-found-clause-played g t c =
+    let l = c.loop-i in
+    let x = c.index-elements-i.result in
+    (held _ _ _ _ _ _ _ c.in_ok-found.ensures.played.0 c.if-found.true (leads_to _ _ _ _ _ (part_at (plain c.args.p.now) c.args.elements.now l.i x (omega arith) c.index-elements-i.is) l.invariant.leads), tt)
+
+pub any_part_in-loop-i-preserved : goal.any_part_in-loop-i-preserved
+any_part_in-loop-i-preserved g t c =
+    let l = c.loop-i in
+    let x = c.index-elements-i.result in
+    let h = c.in_ok-found.ensures.played.0 in
+    record {
+      leads = not_held _ _ _ _ _ _ _ h c.if-found.false (leads_to _ _ _ _ _ (part_at (plain c.args.p.now) c.args.elements.now l.i x (omega arith) c.index-elements-i.is) l.invariant.leads);
+      sound = h.sound l.invariant.sound;
+      pattern = later h _ l.invariant.pattern;
+      elements = all_later h _ l.invariant.elements;
+      falls = omega (arith, c.in_ok-found.ensures.falls, l.invariant.falls);
+    }
+
+pub any_part_in-returns-clause-played : goal.any_part_in-returns-clause-played
+any_part_in-returns-clause-played g t c =
+    let p = plain c.args.p.now in
+    (elements_over (λ ts. match_rows.any_matches p (match_rows.parts_in (tree.from_list ts))) false c.args.elements.now c.loop-i.i _ _ _ (any_none p) (omega arith) c.loop-i.invariant.leads, tt)
+
+pub cases_in-cases_by-requires : goal.cases_in-cases_by-requires
+cases_in-cases_by-requires g t c κs within =
+    (search rules, (within, (c.requires.sound, (rule_honest c.args.self.now c.args.p.now c.in_ok-delayed_rule.field-0 c.in-Some.rule c.in_ok-delayed_rule.ensures.passed c.in-Some.is c.requires.pattern, c.requires.elements))))
+
+pub cases_row-cases_in-requires : goal.cases_row-cases_in-requires
+cases_row-cases_in-requires g t c κs within =
+    let k = c.args.self.now in
+    let h = pair_honest k c.args.args.now c.in-Some.e.now c.in-Some.p.now c.in-Some.ensures c.requires.args in
+    (search rules, (within, (c.requires.sound, (h.1, kept_honest k.store c.in-Some.e.now c.elements.result.now c.elements.ensures.passed h.0))))
+
+pub cases_row-given-requires : goal.cases_row-given-requires
+cases_row-given-requires g t c = record { honest = listed_honest c.cases_in.new.self c.as_slice.result.now _ c.list-made.result c.as_slice.ensures.value c.list-made.ensures.node c.in_ok-cases.ensures.played.1 }
+
+pub cases_row-returns-in_err-cases-clause-played : goal.cases_row-returns-in_err-cases-clause-played
+cases_row-returns-in_err-cases-clause-played g t c =
+    let e = c.in-Some.e.now in
+    let p = c.in-Some.p.now in
+    let q = plain p in
+    let m = subst (λ ts. Played found_trees (match_rows.cases_in ts q (match_rows.delayed_rule q)) c.args.self.now (Err c.in_err-cases.field-0.0) c.cases_in.new.self) c.elements.ensures.value c.in_err-cases.ensures.played in
+    pair_row found_tree match_rows.cases_row c.args.args.now e p _ _ _ c.in-Some.ensures (row_exit found_trees _ _ _ _ _ _ c.from_residual.ensures.1 m)
+
+pub cases_row-returns-clause-played : goal.cases_row-returns-clause-played
+cases_row-returns-clause-played g t c =
+    let e = c.in-Some.e.now in
+    let p = c.in-Some.p.now in
+    let q = plain p in
+    let us = trees c.in_ok-cases.cases.items in
+    let h = subst (λ ts. Plays (match_rows.cases_in ts q (match_rows.delayed_rule q)) c.args.self.now (Ok us) c.cases_in.new.self false) c.elements.ensures.value c.in_ok-cases.ensures.played.0 in
+    let m = subst (λ zs. Makes (list_of (trees zs)) c.list-made.result) c.as_slice.ensures.value c.list-made.ensures.made in
+    pair_row found_tree match_rows.cases_row c.args.args.now e p _ _ _ c.in-Some.ensures (row_made _ (list_of us) _ _ _ _ (plays_bind _ _ h plays_done) (c.given.ensures.played (list_of us) m))
+
+pub count_row-count_matching-requires : goal.count_row-count_matching-requires
+count_row-count_matching-requires g t c κs within =
+    let k = c.args.self.now in
+    let h = pair_honest k c.args.args.now c.in-Some.e.now c.in-Some.p.now c.in-Some.ensures c.requires.args in
+    (search rules, (within, (c.requires.sound, (h.1, kept_honest k.store c.in-Some.e.now c.elements.result.now c.elements.ensures.passed h.0))))
+
+pub member_row-any_matches-requires : goal.member_row-any_matches-requires
+member_row-any_matches-requires g t c κs within =
+    let k = c.args.self.now in
+    let h = pair_honest k c.args.args.now c.in-Some.e.now c.in-Some.p.now c.in-Some.ensures c.requires.args in
+    (search rules, (within, (c.requires.sound, (h.1, kept_honest k.store c.in-Some.e.now c.elements.result.now c.elements.ensures.passed h.0))))
+
+pub delete_cases_row-sifted-requires : goal.delete_cases_row-sifted-requires
+delete_cases_row-sifted-requires g t c κs within =
+    let k = c.args.self.now in
+    let h = pair_honest k c.args.args.now c.in-Some.e.now c.in-Some.p.now c.in-Some.ensures c.requires.args in
+    (search rules, (within, (c.requires.sound, (h.1, args_honest k.store _ _ _ _ c.in-Node.ensures.all h.0))))
+
+pub delete_cases_row-given-requires : goal.delete_cases_row-given-requires
+delete_cases_row-given-requires g t c =
+    let k = c.args.self.now in
+    let h = pair_honest k c.args.args.now c.in-Some.e.now c.in-Some.p.now c.in-Some.ensures c.requires.args in
+    let m = c.in_ok-others.ensures.played in
+    record { honest = node_honest c.sifted.new.self c.in-Node.head.now c.as_slice.result.now _ c.node-made.result c.as_slice.ensures.value c.node-made.ensures.ok (later m.0 _ (head_honest k.store _ _ _ _ c.in-Node.ensures.all h.0)) m.1 }
+
+pub delete_cases_row-returns-in_err-others-clause-played : goal.delete_cases_row-returns-in_err-others-clause-played
+delete_cases_row-returns-in_err-others-clause-played g t c =
+    let e = c.in-Some.e.now in
+    let p = c.in-Some.p.now in
+    let q = delete_node (plain e) (plain p) (plain c.in-Node.head.now) c.in-Node.parts.now c.in-Node.ensures.plain in
+    pair_row found_tree match_rows.delete_cases_row c.args.args.now e p _ _ _ c.in-Some.ensures (row_at _ _ _ _ _ q (row_exit found_trees _ _ _ _ _ _ c.from_residual-in_err-others.ensures.1 c.in_err-others.ensures.played))
+
+pub delete_cases_row-returns-clause-played : goal.delete_cases_row-returns-clause-played
+delete_cases_row-returns-clause-played g t c =
+    let e = c.in-Some.e.now in
+    let p = c.in-Some.p.now in
+    let h = plain c.in-Node.head.now in
+    let us = c.in_ok-others.others.items in
+    let q = delete_node (plain e) (plain p) h c.in-Node.parts.now c.in-Node.ensures.plain in
+    let m = subst (λ zs. Makes (applied h (trees zs)) c.node-made.result) c.as_slice.ensures.value (node_makes c.in-Node.head.now c.as_slice.result.now c.node-made.result c.node-made.ensures.ok c.node-made.ensures.large) in
+    pair_row found_tree match_rows.delete_cases_row c.args.args.now e p _ _ _ c.in-Some.ensures
+    (row_at _ _ _ _ _ q (row_made _ (applied h (trees us)) _ _ _ _ (plays_bind _ _ c.in_ok-others.ensures.played.0 plays_done) (c.given.ensures.played (applied h (trees us)) m)))
+
+pub match_row-returns-in_err-found-clause-played : goal.match_row-returns-in_err-found-clause-played
+match_row-returns-in_err-found-clause-played g t c =
+    pair_row found_tree match_rows.match_row c.args.args.now c.in-Some.e.now c.in-Some.p.now _ _ _ c.in-Some.ensures (row_exit itself _ _ _ _ _ _ c.from_residual.ensures.1 (c.in_err-found.ensures.played (2 ^ 64) (omega arith)))
+
+pub match_row-returns-in_default-clause-played : goal.match_row-returns-in_default-clause-played
+match_row-returns-in_default-clause-played g t c = pair_stays match_rows.match_row c.args.args.now c.args.self.now c.in_default.ensures refl (λ x. refl) (λ x y z ts. refl)
+
+pub match_row-matches-requires : goal.match_row-matches-requires
+match_row-matches-requires g t c κs within =
+    let h = pair_honest c.args.self.now c.args.args.now c.in-Some.e.now c.in-Some.p.now c.in-Some.ensures c.requires.args in
+    (search rules, (within, (c.requires.sound, (h.1, h.0))))
+
+pub match_row-returns-clause-played : goal.match_row-returns-clause-played
+match_row-returns-clause-played g t c =
+    let h = (c.in_ok-found.ensures.played (2 ^ 64) (omega arith)).0 in
+    pair_row found_tree match_rows.match_row c.args.args.now c.in-Some.e.now c.in-Some.p.now c.args.self.now (Ok (Some c.in_ok-truth.field-0)) c.matches.new.self c.in-Some.ensures (row_truth _ (λ b. b) _ _ c.in_ok-found.found c.in_ok-truth.field-0 h c.in_ok-truth.ensures)
+
+pub member_row-returns-in_default-clause-played : goal.member_row-returns-in_default-clause-played
+member_row-returns-in_default-clause-played g t c = pair_stays match_rows.member_row c.args.args.now c.args.self.now c.in_default.ensures refl (λ x. refl) (λ x y z ts. refl)
+
+pub member_row-returns-in_err-found-clause-played : goal.member_row-returns-in_err-found-clause-played
+member_row-returns-in_err-found-clause-played g t c =
+    let e = c.in-Some.e.now in
+    let p = c.in-Some.p.now in
+    let m = subst (λ ts. Played itself (match_rows.any_matches (plain p) ts) c.args.self.now (Err c.in_err-found.field-0.0) c.any_matches.new.self) c.elements.ensures.value c.in_err-found.ensures.played in
+    pair_row found_tree match_rows.member_row c.args.args.now e p _ _ _ c.in-Some.ensures (row_exit itself _ _ _ _ _ _ c.from_residual.ensures.1 m)
+
+pub member_row-returns-clause-played : goal.member_row-returns-clause-played
+member_row-returns-clause-played g t c =
+    let e = c.in-Some.e.now in
+    let p = c.in-Some.p.now in
+    let h = subst (λ ts. Plays (match_rows.any_matches (plain p) ts) c.args.self.now (Ok c.in_ok-found.found) c.any_matches.new.self false) c.elements.ensures.value c.in_ok-found.ensures.played.0 in
+    pair_row found_tree match_rows.member_row c.args.args.now e p c.args.self.now (Ok (Some c.in_ok-truth.field-0)) c.any_matches.new.self c.in-Some.ensures (row_truth _ (λ b. b) _ _ c.in_ok-found.found c.in_ok-truth.field-0 h c.in_ok-truth.ensures)
+
+pub count_row-returns-in_default-clause-played : goal.count_row-returns-in_default-clause-played
+count_row-returns-in_default-clause-played g t c = pair_stays match_rows.count_row c.args.args.now c.args.self.now c.in_default.ensures refl (λ x. refl) (λ x y z ts. refl)
+
+pub count_row-returns-in_err-count-clause-played : goal.count_row-returns-in_err-count-clause-played
+count_row-returns-in_err-count-clause-played g t c =
+    let e = c.in-Some.e.now in
+    let p = c.in-Some.p.now in
+    let m = subst (λ ts. Played itself (match_rows.count_matching 0 (plain p) ts) c.args.self.now (Err c.in_err-count.field-0.0) c.count_matching.new.self) c.elements.ensures.value c.in_err-count.ensures.played in
+    pair_row found_tree match_rows.count_row c.args.args.now e p _ _ _ c.in-Some.ensures (row_exit itself _ _ _ _ _ _ c.from_residual.ensures.1 m)
+
+pub count_row-returns-clause-played : goal.count_row-returns-clause-played
+count_row-returns-clause-played g t c =
+    let e = c.in-Some.e.now in
+    let p = c.in-Some.p.now in
+    let h = subst (λ ts. Plays (match_rows.count_matching 0 (plain p) ts) c.args.self.now (Ok c.in_ok-count.count) c.count_matching.new.self false) c.elements.ensures.value c.in_ok-count.ensures.played.0 in
+    pair_row found_tree match_rows.count_row c.args.args.now e p c.args.self.now (Ok (Some c.in_ok-natural.field-0)) c.count_matching.new.self c.in-Some.ensures (row_count _ _ _ c.in_ok-count.count c.in_ok-natural.field-0 h c.in_ok-natural.ensures)
+
+pub cases_row-returns-in_default-clause-played : goal.cases_row-returns-in_default-clause-played
+cases_row-returns-in_default-clause-played g t c = pair_stays match_rows.cases_row c.args.args.now c.args.self.now c.in_default.ensures refl (λ x. refl) (λ x y z ts. refl)
+
+pub delete_cases_row-returns-in_default-clause-played : goal.delete_cases_row-returns-in_default-clause-played
+delete_cases_row-returns-in_default-clause-played g t c = pair_stays match_rows.delete_cases_row c.args.args.now c.args.self.now c.in_default.ensures refl delete_one delete_many
+
+pub delete_cases_row-returns-in_default-view-clause-played : goal.delete_cases_row-returns-in_default-view-clause-played
+delete_cases_row-returns-in_default-view-clause-played g t c =
+    let k = c.args.self.now in
+    let e = c.in-Some.e.now in
+    let p = c.in-Some.p.now in
+    let h = pair_honest k c.args.args.now e p c.in-Some.ensures c.requires.args in
+    let q = delete_atom (plain e) (plain p) (no_node _ _ _ c.view.ensures.all c.in_default-view.not-Node) in
+    subst (λ z. Played found_tree (sized_row (match_rows.delete_cases_row (trees c.args.args.now))) k (Ok (Some z)) k) (sym c.in_ok-copy.ensures)
+    (pair_row found_tree match_rows.delete_cases_row c.args.args.now e p k (Ok (Some e)) k c.in-Some.ensures (row_at _ _ k (Ok (Some e)) k q (row_gives (prog.result (plain e)) k k e plays_done ((fits_decides (plain e)).1 c.view.ensures.fits) h.0)))
+
+pub free_row-returns-in_default-clause-played : goal.free_row-returns-in_default-clause-played
+free_row-returns-in_default-clause-played g t c = pair_stays match_rows.free_row c.args.args.now c.args.self.now c.in_default.ensures refl (λ x. refl) (λ x y z ts. refl)
+
+pub free_row-any_part-requires : goal.free_row-any_part-requires
+free_row-any_part-requires g t c κs within =
+    let h = pair_honest c.args.self.now c.args.args.now c.in-Some.e.now c.in-Some.p.now c.in-Some.ensures c.requires.args in
+    (omega (arith, c.depth-depth.ensures.fits.shallow), (within, (c.requires.sound, (h.1, h.0))))
+
+pub free_row-returns-in_err-found-clause-played : goal.free_row-returns-in_err-found-clause-played
+free_row-returns-in_err-found-clause-played g t c =
+    pair_row found_tree match_rows.free_row c.args.args.now c.in-Some.e.now c.in-Some.p.now _ _ _ c.in-Some.ensures (row_exit itself _ _ _ _ _ _ c.from_residual.ensures.1 c.in_err-found.ensures.played)
+
+pub free_row-returns-clause-played : goal.free_row-returns-clause-played
+free_row-returns-clause-played g t c =
+    pair_row found_tree match_rows.free_row c.args.args.now c.in-Some.e.now c.in-Some.p.now c.args.self.now (Ok (Some c.in_ok-truth.field-0)) c.any_part.new.self c.in-Some.ensures (row_truth _ not _ _ c.in_ok-found.found c.in_ok-truth.field-0 c.in_ok-found.ensures.played.0 c.in_ok-truth.ensures)

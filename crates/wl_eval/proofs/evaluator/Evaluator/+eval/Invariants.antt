@@ -15,6 +15,12 @@ use Rattle.wl_eval.specs.declared.ends.End.{End}
 use Rattle.wl_eval.specs.declared.ends.Stop.{Stop}
 use Rattle.wl_eval.specs.declared.evaluator.Evaluator.{Evaluator}
 use Rattle.wl_eval.proofs.Bindings.{all_tests, test_within}
+use Rattle.wl_expr.specs.Tree as tree
+use Rattle.wl_expr.specs.Tree.{depth, depths}
+use Rattle.wl_eval.specs.MatchRows as match_rows
+use Rattle.std.proofs.Common.{Some, option_map, take}
+use Rattle.wl_eval.specs.Replacing.{sifted}
+use Rattle.wl_eval.specs.Honest.{HonestRule}
 use Rattle.wl_eval.proofs.evaluator.Evaluator.+eval.Given as goal
 
 -- ---- what takes no step of its own stands below what it may be called from; a turn has taken a step
@@ -190,6 +196,95 @@ invariant-each_applies-loop-i g l = record {
   leads : Leads (matching.each_applies (plain l.fn.f) (trees l.fn.elements)) l.fn.self (matching.each_applies (plain l.f) (trees (drop l.i l.elements))) l.self;
   sound : Sound l.self;
   function : Honest l.self l.f;
+  elements : AllHonest l.self l.elements;
+  falls : l.self.steps ≤ l.fn.self.steps;
+}
+
+-- ---- rows of matches
+
+abbrev pub decreases-match_row : goal.decreases-match_row
+decreases-match_row g l = 8000 * l.self.now.steps + 7600
+
+abbrev pub decreases-member_row : goal.decreases-member_row
+decreases-member_row g l = 8000 * l.self.now.steps + 7600
+
+abbrev pub decreases-count_row : goal.decreases-count_row
+decreases-count_row g l = 8000 * l.self.now.steps + 7600
+
+abbrev pub decreases-cases_row : goal.decreases-cases_row
+decreases-cases_row g l = 8000 * l.self.now.steps + 7600
+
+abbrev pub decreases-delete_cases_row : goal.decreases-delete_cases_row
+decreases-delete_cases_row g l = 8000 * l.self.now.steps + 7600
+
+abbrev pub decreases-free_row : goal.decreases-free_row
+decreases-free_row g l = 8000 * l.self.now.steps + 7600
+
+abbrev pub decreases-any_matches : goal.decreases-any_matches
+decreases-any_matches g l = 8000 * l.self.now.steps + 3800
+
+abbrev pub decreases-count_matching : goal.decreases-count_matching
+decreases-count_matching g l = 8000 * l.self.now.steps + 3800
+
+abbrev pub decreases-sifted : goal.decreases-sifted
+decreases-sifted g l = 8000 * l.self.now.steps + 3800
+
+abbrev pub decreases-cases_in : goal.decreases-cases_in
+decreases-cases_in g l = 8000 * l.self.now.steps + 3900
+
+abbrev pub decreases-cases_by : goal.decreases-cases_by
+decreases-cases_by g l = 8000 * l.self.now.steps + 3800
+
+abbrev pub decreases-any_part : goal.decreases-any_part
+decreases-any_part g l = 8000 * l.self.now.steps + (4000 + 2 * depth (plain l.e.now))
+
+abbrev pub decreases-any_part_in : goal.decreases-any_part_in
+decreases-any_part_in g l = 8000 * l.self.now.steps + (4001 + 2 * depths (tree.from_list (trees l.elements.now)))
+
+abbrev pub invariant-any_matches-loop-i : goal.invariant-any_matches-loop-i
+invariant-any_matches-loop-i g l = record {
+  leads : Leads (match_rows.any_matches (plain l.fn.p) (trees l.fn.elements)) l.fn.self (match_rows.any_matches (plain l.p) (trees (drop l.i l.elements))) l.self;
+  sound : Sound l.self;
+  pattern : Honest l.self l.p;
+  elements : AllHonest l.self l.elements;
+  falls : l.self.steps ≤ l.fn.self.steps;
+}
+
+abbrev pub invariant-count_matching-loop-i : goal.invariant-count_matching-loop-i
+invariant-count_matching-loop-i g l = record {
+  leads : Leads (match_rows.count_matching 0 (plain l.fn.p) (trees l.fn.elements)) l.fn.self (match_rows.count_matching l.count (plain l.p) (trees (drop l.i l.elements))) l.self;
+  sound : Sound l.self;
+  pattern : Honest l.self l.p;
+  elements : AllHonest l.self l.elements;
+  few : l.count ≤ l.i;
+  falls : l.self.steps ≤ l.fn.self.steps;
+}
+
+abbrev pub invariant-sifted-loop-i : goal.invariant-sifted-loop-i
+invariant-sifted-loop-i g l = record {
+  leads : Leads (sifted l.wanted [] (plain l.fn.p) (trees l.fn.elements)) l.fn.self (sifted l.wanted (trees l.found.items) (plain l.p) (trees (drop l.i l.elements))) l.self;
+  sound : Sound l.self;
+  pattern : Honest l.self l.p;
+  elements : AllHonest l.self l.elements;
+  found : AllHonest l.self l.found.items;
+  falls : l.self.steps ≤ l.fn.self.steps;
+}
+
+abbrev pub invariant-cases_by-loop-i : goal.invariant-cases_by-loop-i
+invariant-cases_by-loop-i g l = record {
+  leads : Leads (match_rows.cases_by [] (plain_rule l.fn.rule) (trees l.fn.elements)) l.fn.self (match_rows.cases_by (trees l.found.items) (plain_rule l.rule) (trees (drop l.i l.elements))) l.self;
+  sound : Sound l.self;
+  rule : HonestRule l.self.store l.rule;
+  elements : AllHonest l.self l.elements;
+  found : AllHonest l.self l.found.items;
+  falls : l.self.steps ≤ l.fn.self.steps;
+}
+
+abbrev pub invariant-any_part_in-loop-i : goal.invariant-any_part_in-loop-i
+invariant-any_part_in-loop-i g l = record {
+  leads : Leads (match_rows.any_matches (plain l.fn.p) (match_rows.parts_in (tree.from_list (trees l.fn.elements)))) l.fn.self (match_rows.any_matches (plain l.p) (match_rows.parts_in (tree.from_list (trees (drop l.i l.elements))))) l.self;
+  sound : Sound l.self;
+  pattern : Honest l.self l.p;
   elements : AllHonest l.self l.elements;
   falls : l.self.steps ≤ l.fn.self.steps;
 }

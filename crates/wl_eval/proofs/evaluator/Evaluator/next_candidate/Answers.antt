@@ -1,9 +1,9 @@
-use Rattle.std.proofs.Common.{Ok, Err, Some, None, true, false, sym, subst, arith}
+use Rattle.std.proofs.Common.{Ok, Some, None, false, sym, subst, arith}
 use Rattle.std.proofs.lemmas.Result.{err_from_is_err_and}
 use Rattle.wl_expr.specs.Stamped.{plain}
 use Rattle.wl_match.specs.Left.{left, binding}
 use Rattle.wl_eval.specs.Played.{Plays, Played, itself}
-use Rattle.wl_eval.specs.Searching.{next_binding, next_found}
+use Rattle.wl_eval.specs.Searching.{next_binding}
 use Rattle.wl_eval.proofs.Bindings.{next_none, next_fail, next_is}
 use Rattle.wl_eval.proofs.Playing.{plays_bind, plays_done}
 use Rattle.wl_eval.proofs.Rows.{leads_played, played_exit}
