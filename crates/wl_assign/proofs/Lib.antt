@@ -1,3 +1,3 @@
 mod FirstNames
-mod Forms
+pub mod Forms
 mod Found

@@ -12,5 +12,6 @@ mod targets;
 pub use kinds::{Core, Target};
 pub use left_side::core;
 pub use limits::limit_allows;
-pub use tags::tag_at;
+pub use special::{Special, special_form};
+pub use tags::{has_tag, tag_at};
 pub use targets::target;

@@ -9,7 +9,7 @@ use wl_expr::{Expr, Look};
 /// The special forms. A node with such a head and another number of elements is ordinary, and so is a `Pattern` whose
 /// first element isn't a symbol.
 #[derive(Clone, Copy)]
-pub(crate) enum Special {
+pub enum Special {
     Ordinary,
     Blank,
     BlankSequence,
@@ -96,7 +96,7 @@ fn special_named(name: &str, args: &[Expr]) -> Special
 }
 
 /// Which special form the node of this head and these elements is.
-pub(crate) fn special_form(head: &Expr, args: &[Expr]) -> Special
+pub fn special_form(head: &Expr, args: &[Expr]) -> Special
     ensures { special_of result ≡ special_node (plain head.now) (map plain args.now) }
 {
     match head.view() {

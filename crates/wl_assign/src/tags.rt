@@ -68,6 +68,16 @@ fn is_met(name: &str, args: &[Expr]) -> bool
     false
 }
 
+/// Whether the name is one of the tags.
+pub fn has_tag(core: &Expr, name: &str) -> bool
+    ensures { result ≡ is_name_among name.now (tags (plain core.now)) }
+{
+    match core.view() {
+        Look::Node(_, args) => is_met(name, args),
+        _ => false,
+    }
+}
+
 /// The tag that is the k-th of the distinct ones, from 0, in the order of the elements.
 pub fn tag_at(core: &Expr, k: u64) -> Option<&str>
     ensures value { option_copied result ≡ slice_get (tags (plain core.now)) k }

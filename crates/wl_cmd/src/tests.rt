@@ -25,13 +25,13 @@ fn ends(
 
 #[test]
 fn statuses(rt: HostRuntime) -> Result<(), Fail> {
-    fs::write(&rt, "sums.wl", "4 + 5\nx\n")?;
+    fs::write(&rt, "cells.wl", "1.5\n)\n")?;
     let alloc = rt.alloc();
     let usage = b"usage: wl [--steps N] [--form input|full] [--demo N] [FILE]\n";
     let rows: [(&str, &[u8], &[u8], u8); 3] = [
         (
-            "sums.wl",
-            b"Out[1]= 9\nRefused: not supported yet.\n",
+            "cells.wl",
+            b"Refused: real number at byte 1.\nRefused: unexpected input at byte 1.\n",
             b"",
             1,
         ),

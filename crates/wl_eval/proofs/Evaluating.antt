@@ -31,7 +31,7 @@ use Rattle.wl_eval.proofs.Playing.{plays_bind, plays_now, notes_none}
 use Rattle.wl_eval.proofs.Rows.{no_stamp_inside}
 use Rattle.wl_eval.proofs.Turning.{marked, turns_end, turns_on, aborted_state, aborted_notes}
 
-eval_is : (t : Tree) (s : State) → Go (end_of t) s ≡ record { result = Ok (Eval t s).result; state = (Eval t s).state; did = (Eval t s).did then none }
+pub eval_is : (t : Tree) (s : State) → Go (end_of t) s ≡ record { result = Ok (Eval t s).result; state = (Eval t s).state; did = (Eval t s).did then none }
 unfolding end_of interp
 eval_is t s = refl
 
@@ -74,12 +74,12 @@ one_eval_is (stamped.node p a b) f s h = refl
 eval_by : (b : Bool) (e : Stamped) (s : State) → is_leaf e ≡ false → nat_lt (limit recursion_limit s.world) (s.depth + 1) ≡ b → Eval (plain e) s ≡ eval_on b (Turns 1) (plain e) s
 eval_by b e s h l = Eval-is (plain e) s ∙ one_eval_is e (Turns 1) s h ∙ ap (λ z. eval_on z (Turns 1) (plain e) s) l
 
-pub plays_too_deep : (e : Stamped) (k k1 : Evaluator) → is_leaf e ≡ false → Sound k → k.recursion ≤ k.depth → Plays (prog.message recursion_limit (codes "reclim") (natural k.recursion ∷ [])) k (Ok tt) k1 false → Plays (end_of (plain e)) k (Ok Aborted) k1 false
+pub plays_too_deep : (e : Stamped) (k k1 : Evaluator) → is_leaf e ≡ false → limit recursion_limit (state k).world ≡ k.recursion → k.recursion ≤ k.depth → Plays (prog.message recursion_limit (codes "reclim") (natural k.recursion ∷ [])) k (Ok tt) k1 false → Plays (end_of (plain e)) k (Ok Aborted) k1 false
 plays_too_deep e k k1 h s l m =
     plays_eval (plain e) k k1 Aborted false (aborted recursion_limit (codes "reclim") (state k))
-    (eval_by true e (state k) h (ap (λ n. nat_lt n (k.depth + 1)) s.recursion ∙ lt-ltb k.recursion (k.depth + 1) (omega (arith, l)))) refl
-    (aborted_state recursion_limit (codes "reclim") k.recursion k k1 s.recursion m) refl
-    (aborted_notes recursion_limit (codes "reclim") k.recursion k k1 s.recursion m) m.grows m.sound
+    (eval_by true e (state k) h (ap (λ n. nat_lt n (k.depth + 1)) s ∙ lt-ltb k.recursion (k.depth + 1) (omega (arith, l)))) refl
+    (aborted_state recursion_limit (codes "reclim") k.recursion k k1 s m) refl
+    (aborted_notes recursion_limit (codes "reclim") k.recursion k k1 s m) m.grows m.sound
 
 -- ---- one more level
 
@@ -127,12 +127,12 @@ module _ (k : Evaluator) where
   }
 
 -- an evaluation plays by its turns
-pub plays_turns : (e : Stamped) (k k1 : Evaluator) (x : End) → is_leaf e ≡ false → Sound k → k.depth < k.recursion → PlaysTurns 1 (plain e) (entered k) x k1 → Plays (end_of (plain e)) k (Ok x) (record k1 { depth = k.depth }) (is_budget_end x)
+pub plays_turns : (e : Stamped) (k k1 : Evaluator) (x : End) → is_leaf e ≡ false → limit recursion_limit (state k).world ≡ k.recursion → k.depth < k.recursion → PlaysTurns 1 (plain e) (entered k) x k1 → Plays (end_of (plain e)) k (Ok x) (record k1 { depth = k.depth }) (is_budget_end x)
 plays_turns e k k1 x h y l m =
     let t = plain e in
     let s = state k in
     let k' : Evaluator = record k1 { depth = k.depth } in
-    let b : nat_lt (limit recursion_limit s.world) (s.depth + 1) ≡ false = ap (λ n. nat_lt n (k.depth + 1)) y.recursion ∙ le-ltb k.recursion (k.depth + 1) (omega (arith, l)) in
+    let b : nat_lt (limit recursion_limit s.world) (s.depth + 1) ≡ false = ap (λ n. nat_lt n (k.depth + 1)) y ∙ le-ltb k.recursion (k.depth + 1) (omega (arith, l)) in
     plays_eval t k k' x (is_budget_end x) (closed s.depth (final (Turns 1 t (opened s)))) (eval_by false e s h b) m.ends
     (ap (λ (z : State). let y : State = record z { depth = k.depth } in y) m.leaves) m.out
     (closed_notes k k1 (Turns 1 t (opened s)).did m.notes) m.grows

@@ -1,14 +1,14 @@
 -- Which expressions are guarded.
-use Rattle.std.proofs.Common.{◌≡◌, ◌≢◌, ℕ, zero, suc, ◌+◌, ◌<◌, ◌≤◌, Bool, true, false, not, ◌&&◌, ◌||◌, bytes_eq, List, [], ◌∷◌, length, map, drop, get_or, Option, Some, None, is_some, option_map, refl, sym, ap, ap₂, ◌∙◌, subst, arith}
+use Rattle.std.proofs.Common.{◌≡◌, ◌≢◌, ℕ, suc, ◌+◌, ◌<◌, ◌≤◌, Bool, true, false, ◌&&◌, ◌||◌, bytes_eq, List, [], ◌∷◌, length, map, drop, get_or, Option, Some, None, is_some, refl, sym, ap, ◌∙◌, arith}
 use Rattle.std.proofs.lemmas.Slice.Eq.{bytes_eq-Decides}
 use Rattle.std.specs.Prelude.{codes}
 use Rattle.wl_expr.specs.Special.{Special, ordinary, condition, special, special_named, choose, of_none_or_one, of_one, of_two, of_one_or_two, of_symbol}
 use Rattle.wl_expr.specs.Special as forms
 use Rattle.wl_expr.specs.Stamped.{Stamped, plain, plains, from_list}
 use Rattle.wl_expr.specs.Tree.{Tree, Trees, num, text, symbol, node, none, more, to_list}
-use Rattle.wl_expr.specs.Words.{Name, is_the, is_list, elements, name_of}
+use Rattle.wl_expr.specs.Words.{Name, is_the}
 use Rattle.wl_shape.specs.Scopes.{Needs, Local, values, names, local_of, locals, locals_of, with_local}
-use Rattle.wl_eval.specs.Match.{Scope, of_module, of_with, of_block, with_locals, scope_named, is_scope, is_condition, is_guarded}
+use Rattle.wl_eval.specs.Match.{scope_named, is_scope, is_condition, is_guarded}
 use Rattle.wl_eval.specs.Searching.{needs_values, scope_body, body_of_two}
 use Rattle.wl_eval.proofs.Bindings.{drop_item, all_dropped}
 

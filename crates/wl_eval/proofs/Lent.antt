@@ -1,10 +1,10 @@
 -- The expressions of a run, as they are lent.
-use Rattle.std.proofs.Common.{◌≡◌, ℕ, zero, suc, ◌<◌, ◌≤◌, List, [], ◌∷◌, length, map, get_or, None, refl, sym, ap, ap₂, ◌∙◌, arith}
+use Rattle.std.proofs.Common.{◌≡◌, ℕ, zero, suc, ◌<◌, ◌≤◌, List, [], ◌∷◌, length, get_or, None, refl, sym, ap, ap₂, ◌∙◌, arith}
 use Rattle.wl_expr.specs.Stamped as stamped
 use Rattle.wl_expr.specs.Stamped.{Stamped, plain, plains, from_list}
 use Rattle.wl_expr.specs.Tree as tree
 use Rattle.wl_expr.specs.Tree.{Tree, node, to_list}
-use Rattle.wl_match.specs.Runs.{element_at, elements_of, picked, child}
+use Rattle.wl_match.specs.Runs.{element_at, picked, child}
 use Rattle.wl_eval.specs.Played.{trees}
 
 got_plain : (xs : List Stamped) (i : ℕ) (d : Stamped) (e : Tree) → i < length xs → plain (get_or xs i d) ≡ get_or (to_list (plains (from_list xs))) i e

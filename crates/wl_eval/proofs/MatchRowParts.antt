@@ -1,5 +1,5 @@
 -- How rows of matches play, element after element and part after part.
-use Rattle.std.proofs.Common.{◌≡◌, ℕ, zero, suc, ◌+◌, ◌<◌, ◌≤◌, Bool, true, false, not, List, [], ◌∷◌, ◌++◌, length, map, drop, get_or, Option, Some, None, option_map, Result, Ok, Err, IfOk, refl, sym, ap, ◌∙◌, subst, arith}
+use Rattle.std.proofs.Common.{◌≡◌, ℕ, zero, suc, ◌+◌, ◌<◌, ◌≤◌, Bool, true, false, List, [], ◌∷◌, ◌++◌, length, drop, get_or, Option, Some, None, option_map, Result, Ok, Err, IfOk, refl, sym, ap, ◌∙◌, subst, arith}
 use Rattle.std.proofs.lemmas.List.Elements.{All-head, All-tail}
 use Rattle.std.specs.Prelude.{codes}
 use Rattle.std.specs.Result.{IsErrAnd}
@@ -15,7 +15,7 @@ use Rattle.wl_rules.specs.declared.rule.Rule.{Rule}
 use Rattle.wl_eval.specs.Honest.{HonestRule}
 use Rattle.wl_eval.specs.Prog.{Prog, done, ◌>>=◌, unchanged, result}
 use Rattle.wl_eval.specs.Match.{matches, rule_result}
-use Rattle.wl_eval.specs.MatchRows.{any_matches, matching, unmatched, kept, count_matching, parts, parts_in, cases_by, cases_in, delete_cases_row}
+use Rattle.wl_eval.specs.MatchRows.{any_matches, matching, unmatched, kept, count_matching, parts, parts_in, cases_by, delete_cases_row}
 use Rattle.wl_eval.specs.Parts.{sized_row}
 use Rattle.wl_eval.specs.Played.{Plays, Played, Seen, Leads, Honest, AllHonest, trees, found_tree}
 use Rattle.wl_eval.specs.Replacing.{IsRuleFrom, MaybeRuleFrom, agrees, pair, sifted, truth_symbol}

@@ -1,5 +1,5 @@
 -- How matches and trials play, part after part.
-use Rattle.std.proofs.Common.{◌≡◌, ◌≢◌, ◌↔◌, ◌^◌, ℕ, zero, suc, ◌+◌, ◌<◌, ◌≤◌, Bool, true, false, not, ◌&&◌, List, [], ◌∷◌, length, map, drop, get_or, Option, Some, None, option_map, option_copied, slice_get, Result, Ok, Err, IfOk, refl, sym, ap, ap₂, ◌∙◌, subst, subst₂, arith}
+use Rattle.std.proofs.Common.{◌≡◌, ◌≢◌, ◌↔◌, ◌^◌, ℕ, zero, suc, ◌+◌, ◌<◌, ◌≤◌, Bool, true, false, not, ◌&&◌, List, [], ◌∷◌, length, map, drop, get_or, Option, Some, None, slice_get, Result, Ok, Err, IfOk, refl, sym, ap, ◌∙◌, subst, subst₂, arith}
 use Rattle.std.proofs.lemmas.List.Elements.{All-cons}
 use Rattle.std.proofs.lemmas.Result.{err_from_is_err_and}
 use Rattle.std.specs.List.{All}
@@ -27,10 +27,9 @@ use Rattle.wl_match.specs.Left.{left, binding}
 use Rattle.wl_match.specs.Parts.{kept}
 use Rattle.wl_match.specs.Pattern.{Ask, Pat, applies, holds, refuses, pattern}
 use Rattle.wl_match.specs.Runs.{shown}
-use Rattle.wl_match.specs.Search.{Trail, Leaf}
+use Rattle.wl_match.specs.Search.{Trail}
 use Rattle.wl_match.specs.Shown.{Asks, AreFrom, IsTest, pattern_in, subject_in, tests_in}
 use Rattle.wl_match.specs.Trials.{Trials}
-use Rattle.wl_rules.specs.Entries.{PlainRule}
 use Rattle.wl_rules.specs.StampedRules.{plain_rule}
 use Rattle.wl_rules.specs.Stored.{Stored}
 use Rattle.wl_rules.specs.declared.rule.Rule.{Rule}
@@ -38,9 +37,8 @@ use Rattle.wl_shape.specs.Answers.{IsFilled}
 use Rattle.wl_shape.specs.Fill.{fill_binding}
 use Rattle.wl_eval.specs.Prog.{Prog, done, ◌>>=◌, or_else, sized, value_of_built}
 use Rattle.wl_eval.specs.Honest.{HonestIn}
-use Rattle.wl_eval.specs.Match as matching
 use Rattle.wl_eval.specs.Match.{walk, runs, each_applies, test_holds, matches_within, filling, guard, is_guarded, flags_of, rule_result, trial}
-use Rattle.wl_eval.specs.Played.{Plays, Played, Seen, Leads, Honest, AllHonest, HonestMaybe, Makes, trees, itself, found_tree}
+use Rattle.wl_eval.specs.Played.{Plays, Played, Seen, Leads, Honest, AllHonest, Makes, trees, itself, found_tree}
 use Rattle.wl_eval.specs.Searching.{next_found, found_by, true_of_built, tests_within, passes_within, refuses_within, HonestView}
 use Rattle.wl_eval.specs.declared.evaluator.Evaluator.{Evaluator}
 use Rattle.wl_eval.specs.declared.ends.Stop.{Stop}

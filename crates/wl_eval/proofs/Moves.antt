@@ -137,7 +137,7 @@ module _ (a : What) (k k' : Evaluator) (e : state k' ≡ record (state k) { worl
       }
 
 -- another desk with as many open Quiets
-desk_sound : (k : Evaluator) (d : Desk) → d.quiets ≡ k.desk.quiets → Sound k → Sound (record k { desk = d; log = None })
+pub desk_sound : (k : Evaluator) (d : Desk) → d.quiets ≡ k.desk.quiets → Sound k → Sound (record k { desk = d; log = None })
 desk_sound k d q h = record {
   distinct = h.distinct;
   drawn = h.drawn;

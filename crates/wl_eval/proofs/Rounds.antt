@@ -1,7 +1,6 @@
 -- How the parts of a turn play, one after the other.
 use Rattle.std.proofs.Common.{Bor, ◌≡◌, ℕ, ◌+◌, ◌<◌, ◌≤◌, Bool, true, false, List, [], ◌∷◌, ◌++◌, length, get_or, drop, map, filter_map, Option, Some, None, option_map, Result, Ok, Err, IfOk, ◌↔◌, refl, sym, ap, ◌∙◌, subst, arith, true≢false, if◌then◌else◌}
 use Rattle.std.proofs.lemmas.List.{map-append, drop_all}
-use Rattle.std.specs.Prelude.{codes}
 use Rattle.wl_exact.specs.Fraction.{Fraction}
 use Rattle.wl_expr.specs.Look.{looked}
 use Rattle.wl_expr.specs.Same.{same}
@@ -9,7 +8,7 @@ use Rattle.wl_expr.specs.Stamped as stamped
 use Rattle.wl_expr.specs.Stamped.{Stamped, plain, plains, from_list, stamp_of, without_stamp}
 use Rattle.wl_expr.specs.Tree as tree
 use Rattle.wl_expr.specs.Tree.{Tree, IsWithinLimits, num, text, symbol, node, to_list}
-use Rattle.wl_expr.specs.Words.{Name, applied, elements, is_form, leftmost, name_of}
+use Rattle.wl_expr.specs.Words.{Name, applied, elements, leftmost, name_of}
 use Rattle.wl_expr.specs.declared.fault.ExprFault.{ExprFault}
 use Rattle.wl_expr.specs.declared.fault.ExprFault.TheVariants as fault
 use Rattle.wl_expr.specs.declared.look.Look.{Look}
@@ -25,8 +24,7 @@ use Rattle.wl_eval.specs.State as spec
 use Rattle.wl_eval.specs.Prog.{Prog, done, ◌>>=◌, attributes_of, or_else, value_of}
 use Rattle.wl_eval.specs.Elements.{evaluated, evaluated_on, element, stays_held}
 use Rattle.wl_eval.specs.Match.{trial}
-use Rattle.wl_eval.specs.BuiltIn.{built_in, row, sized_result}
-use Rattle.wl_eval.specs.ScopeRows.{function_by}
+use Rattle.wl_eval.specs.BuiltIn.{built_in, row}
 use Rattle.wl_eval.specs.Turn as turn
 use Rattle.wl_eval.specs.Turn.{tried, up_result, up_values, up_names, head_values, sub_values}
 use Rattle.wl_eval.specs.Parts.{turned_by, head_place, leftmost_place, sized_row}
@@ -186,18 +184,6 @@ built_in-none (num n) f = refl
 built_in-none (text s) f = refl
 built_in-none (symbol x) f = refl
 built_in-none (node h ts) f = absurd (f h ts refl)
-
-pub plays_no_built_in : (h : Tree) (ts : tree.Trees) (t : Tree) (k : Evaluator) → node h ts ≡ t → ((x : Name) → h ≡ symbol x → ⊥) → is_form (codes "Function") h ≡ false → Plays (built_in t) k (Ok None) k false
-plays_no_built_in h ts t k e f n = subst (λ z. Plays (built_in z) k (Ok None) k false) e (other h f n)
-  where
-    other : (h : Tree) → ((x : Name) → h ≡ symbol x → ⊥) → is_form (codes "Function") h ≡ false → Plays (built_in (node h ts)) k (Ok None) k false
-    other (num n) f q = plays_bind (done None) _ plays_done plays_done
-    other (text s) f q = plays_bind (done None) _ plays_done plays_done
-    other (symbol x) f q = absurd (f x refl)
-    other (node g us) f q =
-        subst (λ (o : Option Tree). Plays (done o >>= λ r. sized_result r) k (Ok None) k false)
-        (sym (ap (λ (b : Bool). elim b [ true ↦ function_by (node g us) (to_list us) (to_list ts) | false ↦ None ]) q))
-        (plays_bind (done None) _ plays_done plays_done)
 
 -- ---- elements
 

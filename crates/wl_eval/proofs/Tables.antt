@@ -66,7 +66,7 @@ is_none_so : {A : Type 0} (o : Option A) → is_none o ≡ true → o ≡ None
 is_none_so None h = refl
 is_none_so (Some a) h = absurd (true≢false (sym h))
 
-both_true : (a b : Bool) → (a && b) ≡ true → (a ≡ true) × (b ≡ true)
+pub both_true : (a b : Bool) → (a && b) ≡ true → (a ≡ true) × (b ≡ true)
 both_true true b h = (refl, h)
 both_true false b h = absurd (true≢false (sym h))
 
@@ -165,3 +165,11 @@ row_otherwise x es n =
     (at_special b definition_rows x _ refl n ∙ at_special b entry_rows x _ refl n ∙ at_special b match_rows x _ refl n ∙ at_special b scope_rows x _ refl n ∙ at_special b end_rows x _ refl n
     ∙ at_special b message_rows x None refl n)
     (at_control b control.rows x refl n)
+
+-- ---- a row of loops and branches
+
+pub row_control : (x : Name) (es : List Tree) (f : control.Row) → row_of x ≡ None → control.row_of x ≡ Some f → row x es ≡ iterated (iterator_name x es) (f es)
+unfolding row
+row_control x es f o e =
+    ap (λ z. row_by z x es)
+    (special-is x ∙ ap (λ z. or_row z (control_row x)) o ∙ ap (λ z. elim z as (λ _. Option Row) [ None ↦ None | Some g ↦ Some (λ ts. iterated (iterator_name x ts) (g ts)) ]) e)

@@ -31,11 +31,20 @@ pub mod Logs
 pub mod Played
 pub mod Searching
 pub mod Recall
+-- A kernel as other crates see it.
+pub mod Marks
+pub mod KernelView
 -- What the functions of a turn say besides.
 pub mod Kinds
 pub mod Parts
 pub mod Operands
+pub mod Prepared
 pub mod Replacing
+pub mod Replies
+pub mod LocalNames
+pub mod Guards
+pub mod Slots
+pub mod Endings
 -- Sessions that are computed.
 pub mod Cells
 pub mod WorkedCells

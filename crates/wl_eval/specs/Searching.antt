@@ -1,5 +1,5 @@
 -- What the functions of matches and trials say: a search from binding to binding, and what is lent to tests and bodies.
-use Rattle.std.specs.Prelude.{ℕ, Bool, true, false, not, List, [], ◌∷◌, Option, Some, None, is_some, codes, bytes_eq, ⊤}
+use Rattle.std.specs.Prelude.{ℕ, Bool, true, false, not, List, [], ◌∷◌, Option, Some, None, is_some, ⊤}
 use Rattle.wl_expr.specs.Tree.{Tree, symbol, node, none, more}
 use Rattle.wl_expr.specs.Words.{is_true}
 use Rattle.wl_match.specs.declared.machine.Machine.{Machine}

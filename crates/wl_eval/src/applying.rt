@@ -5,6 +5,7 @@ ghost use Rattle.wl_expr.specs.Words.{elements, leftmost, name_of};
 ghost use Rattle.wl_eval.specs.Parts.{head_place, up_symbol};
 ghost use Rattle.wl_eval.specs.Played.{Honest, Played, Sound, found_tree, trees};
 ghost use Rattle.wl_eval.specs.Turn as turn;
+ghost use Rattle.wl_eval.specs.Marks.{at_last_mark};
 
 use crate::ends::Stop;
 use crate::evaluator::Evaluator;
@@ -92,6 +93,7 @@ impl Evaluator {
         requires honest { Honest self.old form.now }
         ensures played { Played found_tree (turn.applied_rule attributes (plain form.now)) self.old result self.new }
         ensures falls { self.new.steps ≤ self.old.steps }
+        ensures ticks { at_last_mark work.new ≡ at_last_mark work.old }
     {
         let up = self.up_values(attributes, form, work)?;
         if let Some(e) = up {
@@ -116,6 +118,7 @@ impl Evaluator {
         requires honest { Honest self.old form.now }
         ensures played { Played found_tree (turn.up_values attributes (plain form.now)) self.old result self.new }
         ensures falls { self.new.steps ≤ self.old.steps }
+        ensures ticks { at_last_mark work.new ≡ at_last_mark work.old }
     {
         if attributes.has(Attribute::HoldAllComplete) {
             return Ok(None);
@@ -144,6 +147,7 @@ impl Evaluator {
         requires honest { Honest self.old form.now }
         ensures played { Played found_tree (turn.head_values (plain form.now)) self.old result self.new }
         ensures falls { self.new.steps ≤ self.old.steps }
+        ensures ticks { at_last_mark work.new ≡ at_last_mark work.old }
     {
         match head_place(form) {
             None => Ok(None),
@@ -164,6 +168,7 @@ impl Evaluator {
         requires honest { Honest self.old e.now }
         ensures played { Played found_tree (turn.tried kind name.now (plain e.now)) self.old result self.new }
         ensures falls { self.new.steps ≤ self.old.steps }
+        ensures ticks { at_last_mark work.new ≡ at_last_mark work.old }
     {
         let rules = self.rules_of(name, kind, work)?;
         self.trial(&rules, e, work)

@@ -8,16 +8,17 @@ ghost use Rattle.wl_eval.specs.Kinds.{begins_capital, row_by};
 ghost use Rattle.wl_eval.specs.Parts.{Answers, HonestApplied, sized_row};
 ghost use Rattle.wl_eval.specs.Played.{AllHonest, Honest, Played, Plays, Sound, found_tree, trees};
 ghost use Rattle.wl_eval.specs.PureRows as pure;
+ghost use Rattle.wl_eval.specs.Marks.{at_last_mark};
 
-use crate::elements::is_form;
+use crate::end_rows::{abort_row, break_row, continue_row, throw_row};
 use crate::ends::Stop;
 use crate::evaluator::Evaluator;
 use crate::kind::Kind;
+use crate::update_rows::Update;
 use std::slice;
 use wl_control::Cursor;
 use wl_expr::{Applied, Expr, ExprFault, Look, Notice};
 use wl_ports::{Ledger, Memory, Work};
-use wl_rules::Attributes;
 
 /// Whether a name begins as each of a built-in function does.
 fn begins_capital(name: &str) -> bool
@@ -41,6 +42,7 @@ impl Evaluator {
         requires honest { Honest self.old form.now }
         ensures played { Played found_tree (table.built_in (plain form.now)) self.old result self.new }
         ensures falls { self.new.steps ≤ self.old.steps }
+        ensures ticks { at_last_mark work.new ≡ at_last_mark work.old }
     {
         let Look::Node(head, args) = form.view() else {
             return Ok(None);
@@ -48,11 +50,7 @@ impl Evaluator {
         if let Look::Symbol(name) = head.view() {
             return self.row(name, args, work);
         }
-        // Functions come here.
-        if is_form(head, "Function") {
-            return Err(Stop::Memory);
-        }
-        Ok(None)
+        self.function_row(head, args, work)
     }
 
     /// The result of the row of a name, where it has one.
@@ -67,6 +65,7 @@ impl Evaluator {
         requires args { AllHonest self.old args.now }
         ensures played { Played found_tree (sized_row (table.row name.now (trees args.now))) self.old result self.new }
         ensures falls { self.new.steps ≤ self.old.steps }
+        ensures ticks { at_last_mark work.new ≡ at_last_mark work.old }
     {
         if !begins_capital(name) {
             return Ok(None);
@@ -82,9 +81,10 @@ impl Evaluator {
         if let Some(kind) = Kind::named(name) {
             return self.other_row(kind, args, work);
         }
-        // Loops and branches come here.
-        if let Some(_) = Cursor::start(self.alloc, name, args)? {
-            return Err(Stop::Memory);
+        let _count = args.len();
+        let started = Cursor::start(self.alloc, name, args)?;
+        if let Some(cursor) = started {
+            return self.control_row(cursor, name, args, work);
         }
         Ok(None)
     }
@@ -101,8 +101,27 @@ impl Evaluator {
         requires args { AllHonest self.old args.now }
         ensures played { Played found_tree (sized_row (row_by kind (trees args.now))) self.old result self.new }
         ensures falls { self.new.steps ≤ self.old.steps }
+        ensures ticks { at_last_mark work.new ≡ at_last_mark work.old }
     {
         match kind {
+            Kind::Set => self.set_row(args, work),
+            Kind::SetDelayed => self.set_delayed_row(args, work),
+            Kind::UpSet => self.up_set_row(args, work),
+            Kind::UpSetDelayed => self.up_set_delayed_row(args, work),
+            Kind::TagSet => self.tag_set_row(args, work),
+            Kind::TagSetDelayed => self.tag_set_delayed_row(args, work),
+            Kind::Unset => self.unset_row(args, work),
+            Kind::TagUnset => self.tag_unset_row(args, work),
+            Kind::AddTo => self.update_row(Update::Plus, args, work),
+            Kind::SubtractFrom => self.update_row(Update::Minus, args, work),
+            Kind::TimesBy => self.update_row(Update::Times, args, work),
+            Kind::DivideBy => self.update_row(Update::Divide, args, work),
+            Kind::AppendTo => self.update_row(Update::Append, args, work),
+            Kind::PrependTo => self.update_row(Update::Prepend, args, work),
+            Kind::PreIncrement => self.step_row(false, false, args, work),
+            Kind::PreDecrement => self.step_row(false, true, args, work),
+            Kind::Increment => self.step_row(true, false, args, work),
+            Kind::Decrement => self.step_row(true, true, args, work),
             Kind::Clear => self.clear_row(args, work),
             Kind::ClearAll => self.clear_all_row(args, work),
             Kind::Attributes => self.attributes_row(args, work),
@@ -116,20 +135,27 @@ impl Evaluator {
             Kind::Cases => self.cases_row(args, work),
             Kind::DeleteCases => self.delete_cases_row(args, work),
             Kind::FreeQ => self.free_row(args, work),
+            Kind::Replace => self.replace_row(args, work),
+            Kind::ReplaceAll => self.replace_all_row(args, work),
+            Kind::ReplaceRepeated => self.replace_repeated_row(args, work),
+            Kind::Module => self.module_row(args, work),
+            Kind::With => self.with_row(args, work),
+            Kind::Block => self.block_row(args, work),
+            Kind::Throw => throw_row(args),
+            Kind::Catch => self.catch_row(args, work),
+            Kind::Abort => abort_row(args),
+            Kind::CheckAbort => self.check_abort_row(args, work),
+            Kind::Break => break_row(args),
+            Kind::Continue => continue_row(args),
             Kind::Print => self.print_row(args),
             Kind::Message => self.message_row(args, work),
             Kind::Off => self.off_row(args),
             Kind::On => self.on_row(args),
             Kind::MessageName => self.message_name_row(args, work),
+            Kind::Quiet => self.quiet_row(args, work),
+            Kind::Check => self.check_row(args, work),
             Kind::Out => self.out_row(args),
             Kind::In => self.in_row(args),
-            // The other rows come here.
-            _ => {
-                if self.steps == 0 {
-                    let _values = self.elements(Attributes::none(), args, work);
-                }
-                Err(Stop::Memory)
-            }
         }
     }
 
@@ -142,6 +168,7 @@ impl Evaluator {
         requires honest { IfOk answer (HonestApplied self.old) }
         ensures played { (a : answers.Applied) → Answers a answer → Played found_tree (sized_row (pure.applied_by a)) self.old result self.new }
         ensures kept { self.new.steps ≡ self.old.steps }
+        ensures ticks { at_last_mark work.new ≡ at_last_mark work.old }
     {
         match answer {
             Err(fault) => Err(self.fault(fault, work)),
@@ -162,6 +189,7 @@ impl Evaluator {
     fn notify<L: Ledger>(&mut self, notice: Notice, work: &mut Work<L>) -> Result<(), Memory>
         ensures played { IfOk result (λ _. Plays (pure.notify (plain_notice notice)) self.old (Ok tt) self.new false) }
         ensures kept { self.new.steps ≡ self.old.steps }
+        ensures ticks { at_last_mark work.new ≡ at_last_mark work.old }
     {
         match notice {
             Notice::Overflow => self.issue("General", "ovfl", &[], work),

@@ -11,6 +11,7 @@ ghost use Rattle.wl_eval.specs.Honest.{HonestRule};
 ghost use Rattle.wl_eval.specs.LeftSides.{is_limit, iteration_limit, recursion_limit};
 ghost use Rattle.wl_eval.specs.Played.{Plays, IsTaken, IsUnprotected, MayHave, Sound, TakesAway, with_number};
 ghost use Rattle.wl_eval.specs.Prog as prog;
+ghost use Rattle.wl_eval.specs.Marks.{at_last_mark};
 
 use crate::evaluator::{Evaluator, Taken};
 use wl_expr::{Expr, Look};
@@ -132,6 +133,7 @@ impl Evaluator {
         requires limits { is_limit name.now ≡ false }
         ensures played { IfOk result (λ b. TakesAway name.now kind (plain left.now) self.old b self.new) }
         ensures kept { self.new.steps ≡ self.old.steps }
+        ensures ticks { at_last_mark work.new ≡ at_last_mark work.old }
     {
         let index = self.look(name, work)?;
         let found = unrefused(self.store.remove_rule(index, kind, left))?;

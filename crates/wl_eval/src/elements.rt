@@ -6,6 +6,7 @@ ghost use Rattle.wl_expr.specs.Words.{is_form, is_the};
 ghost use Rattle.wl_eval.specs.Elements.{evaluated, stays_held};
 ghost use Rattle.wl_eval.specs.Played.{AllHonest, Played, Sound, trees, values};
 ghost use Rattle.wl_eval.specs.Prog as prog;
+ghost use Rattle.wl_eval.specs.Marks.{at_last_mark};
 
 use crate::ends::Stop;
 use crate::evaluator::Evaluator;
@@ -58,6 +59,7 @@ impl Evaluator {
         requires args { AllHonest self.old args.now }
         ensures played { Played (values attributes) (evaluated attributes (trees args.now)) self.old result self.new }
         ensures falls { self.new.steps ≤ self.old.steps }
+        ensures ticks { at_last_mark work.new ≡ at_last_mark work.old }
     {
         if attributes.has(Attribute::HoldAllComplete) {
             return Ok(copy_all(self.alloc, args)?);

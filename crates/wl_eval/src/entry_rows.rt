@@ -13,6 +13,7 @@ ghost use Rattle.wl_eval.specs.Operands.{attributes_changed, names_among, protec
 ghost use Rattle.wl_eval.specs.Parts.{sized_row};
 ghost use Rattle.wl_eval.specs.Played.{Makes, Played, Plays, Sound, found_tree, trees};
 ghost use Rattle.std.specs.Prelude.{true};
+ghost use Rattle.wl_eval.specs.Marks.{at_last_mark};
 
 use crate::ends::Stop;
 use crate::evaluator::Evaluator;
@@ -211,6 +212,7 @@ impl Evaluator {
         requires named { plain symbol.now ≡ tree.symbol name.now }
         ensures played { IfOk result (λ _. Plays (rows.clear_one all name.now) self.old (Ok tt) self.new false) }
         ensures kept { self.new.steps ≡ self.old.steps }
+        ensures ticks { at_last_mark work.new ≡ at_last_mark work.old }
     {
         let is_protected = self.is_protected(name, work)?;
         if is_protected {
@@ -232,6 +234,7 @@ impl Evaluator {
         requires sound { Sound self.old }
         ensures played { Played found_tree (sized_row (rows.clear_named all (names_of (trees args.now)))) self.old result self.new }
         ensures kept { self.new.steps ≡ self.old.steps }
+        ensures ticks { at_last_mark work.new ≡ at_last_mark work.old }
     {
         if args.is_empty() {
             return Ok(None);
@@ -256,6 +259,7 @@ impl Evaluator {
         requires sound { Sound self.old }
         ensures played { Played found_tree (sized_row (rows.clear_row (trees args.now))) self.old result self.new }
         ensures falls { self.new.steps ≤ self.old.steps }
+        ensures ticks { at_last_mark work.new ≡ at_last_mark work.old }
     {
         self.clear_named(false, args, work)
     }
@@ -268,6 +272,7 @@ impl Evaluator {
         requires sound { Sound self.old }
         ensures played { Played found_tree (sized_row (rows.clear_all_row (trees args.now))) self.old result self.new }
         ensures falls { self.new.steps ≤ self.old.steps }
+        ensures ticks { at_last_mark work.new ≡ at_last_mark work.old }
     {
         self.clear_named(true, args, work)
     }
@@ -280,6 +285,7 @@ impl Evaluator {
         requires sound { Sound self.old }
         ensures played { Played found_tree (sized_row (rows.attributes_row (trees args.now))) self.old result self.new }
         ensures falls { self.new.steps ≤ self.old.steps }
+        ensures ticks { at_last_mark work.new ≡ at_last_mark work.old }
     {
         let Some(name) = only_symbol(args) else {
             return Ok(None);
@@ -301,6 +307,7 @@ impl Evaluator {
         ensures played { IfOk result (λ _. Plays (rows.change_attributes (λ s. put_all are_in s attributes.now) name.now)
             self.old (Ok tt) self.new false) }
         ensures kept { self.new.steps ≡ self.old.steps }
+        ensures ticks { at_last_mark work.new ≡ at_last_mark work.old }
     {
         let set = self.attributes_of(name, work)?;
         self.set_attributes(name, put_all(set, attributes, are_in))
@@ -317,6 +324,7 @@ impl Evaluator {
         ensures played { IfOk result (λ _. Plays (rows.change_each (λ s. put_all are_in s attributes.now) (names_among (trees symbols.now)))
             self.old (Ok (Some null_symbol)) self.new false) }
         ensures kept { self.new.steps ≡ self.old.steps }
+        ensures ticks { at_last_mark work.new ≡ at_last_mark work.old }
     {
         for i in 0..symbols.len() {
             let Look::Symbol(name) = symbols[i].view() else {
@@ -337,6 +345,7 @@ impl Evaluator {
         requires sound { Sound self.old }
         ensures played { Played found_tree (sized_row (attributes_changed are_in (trees args.now))) self.old result self.new }
         ensures kept { self.new.steps ≡ self.old.steps }
+        ensures ticks { at_last_mark work.new ≡ at_last_mark work.old }
     {
         let Some((symbols, attributes)) = two(args) else {
             return Ok(None);
@@ -361,6 +370,7 @@ impl Evaluator {
         requires sound { Sound self.old }
         ensures played { Played found_tree (sized_row (rows.set_attributes_row (trees args.now))) self.old result self.new }
         ensures falls { self.new.steps ≤ self.old.steps }
+        ensures ticks { at_last_mark work.new ≡ at_last_mark work.old }
     {
         self.attributes_changed(true, args, work)
     }
@@ -373,6 +383,7 @@ impl Evaluator {
         requires sound { Sound self.old }
         ensures played { Played found_tree (sized_row (rows.clear_attributes_row (trees args.now))) self.old result self.new }
         ensures falls { self.new.steps ≤ self.old.steps }
+        ensures ticks { at_last_mark work.new ≡ at_last_mark work.old }
     {
         self.attributes_changed(false, args, work)
     }
@@ -387,6 +398,7 @@ impl Evaluator {
         requires sound { Sound self.old }
         ensures played { Played found_tree (sized_row (protection protects name.now)) self.old result self.new }
         ensures kept { self.new.steps ≡ self.old.steps }
+        ensures ticks { at_last_mark work.new ≡ at_last_mark work.old }
     {
         let set = self.attributes_of(name, work)?;
         self.set_attributes(name, put(set, Attribute::Protected, protects))?;
@@ -403,6 +415,7 @@ impl Evaluator {
         requires sound { Sound self.old }
         ensures played { Played found_tree (sized_row (rows.protect_row (trees args.now))) self.old result self.new }
         ensures falls { self.new.steps ≤ self.old.steps }
+        ensures ticks { at_last_mark work.new ≡ at_last_mark work.old }
     {
         match only_symbol(args) {
             None => Ok(None),
@@ -418,6 +431,7 @@ impl Evaluator {
         requires sound { Sound self.old }
         ensures played { Played found_tree (sized_row (rows.unprotect_row (trees args.now))) self.old result self.new }
         ensures falls { self.new.steps ≤ self.old.steps }
+        ensures ticks { at_last_mark work.new ≡ at_last_mark work.old }
     {
         match only_symbol(args) {
             None => Ok(None),

@@ -4,6 +4,7 @@ ghost use Rattle.wl_expr.specs.Stamped.{plain};
 ghost use Rattle.wl_expr.specs.Tree.{Tree};
 ghost use Rattle.wl_eval.specs.Played.{Ended, Honest, Makes, Played, Sound, TurnsEnd, is_leaf, sealed, tree, turned, whole_turn};
 ghost use Rattle.wl_eval.specs.Prog as prog;
+ghost use Rattle.wl_eval.specs.Marks.{at_last_mark};
 
 use crate::ends::{End, Stop, Turned, ended, valued};
 use crate::evaluator::Evaluator;
@@ -11,7 +12,7 @@ use wl_expr::{Expr, ExprFault, Look};
 use wl_ports::{Ledger, Work};
 
 /// Whether the expression is a number or a text.
-fn is_leaf(e: &Expr) -> bool
+pub(crate) fn is_leaf(e: &Expr) -> bool
     ensures { result ≡ is_leaf e.now }
 {
     match e.view() {
@@ -30,6 +31,7 @@ impl Evaluator {
         requires honest { Honest self.old e }
         ensures played { Ended (plain e) self.old result self.new }
         ensures falls { self.new.steps ≤ self.old.steps }
+        ensures ticks { at_last_mark work.new ≡ at_last_mark work.old }
     {
         if is_leaf(&e) {
             return Ok(End::Value(e));
@@ -47,11 +49,12 @@ impl Evaluator {
 
     /// The turns of an evaluation, from the first one on.
     #[cycle(eval)]
-    fn turns<L: Ledger>(&mut self, first: Expr, work: &mut Work<L>) -> Result<End, Stop>
+    pub(crate) fn turns<L: Ledger>(&mut self, first: Expr, work: &mut Work<L>) -> Result<End, Stop>
         requires sound { Sound self.old }
         requires honest { Honest self.old first }
         ensures played { TurnsEnd 1 (plain first) self.old result self.new }
         ensures falls { self.new.steps ≤ self.old.steps }
+        ensures ticks { at_last_mark work.new ≡ at_last_mark work.old }
     {
         let mut subject = first;
         let mut count: u32 = 1;
@@ -83,6 +86,7 @@ impl Evaluator {
         ensures played { Played sealed (whole_turn (plain e.now)) self.old result self.new }
         ensures falls { self.new.steps ≤ self.old.steps }
         ensures less { IfOk result (λ _. self.new.steps < self.old.steps) }
+        ensures ticks { at_last_mark work.new ≡ at_last_mark work.old }
     {
         self.bare_turn(e, work)
     }
@@ -95,6 +99,7 @@ impl Evaluator {
         ensures played { Played turned (whole_turn (plain e.now)) self.old result self.new }
         ensures falls { self.new.steps ≤ self.old.steps }
         ensures less { IfOk result (λ _. self.new.steps < self.old.steps) }
+        ensures ticks { at_last_mark work.new ≡ at_last_mark work.old }
     {
         self.take_step()?;
         self.turn(e, work)
@@ -107,6 +112,7 @@ impl Evaluator {
         requires honest { Honest self.old e.now }
         ensures played { Played tree (prog.value_of (plain e.now)) self.old result self.new }
         ensures falls { self.new.steps ≤ self.old.steps }
+        ensures ticks { at_last_mark work.new ≡ at_last_mark work.old }
     {
         let end = self.evaluate(e.copy()?, work)?;
         valued(end)
@@ -123,6 +129,7 @@ impl Evaluator {
         requires honest { IfOk made (Honest self.old) }
         ensures played { (t : Tree) → Makes t made → Played tree (prog.value_of_built t) self.old result self.new }
         ensures falls { self.new.steps ≤ self.old.steps }
+        ensures ticks { at_last_mark work.new ≡ at_last_mark work.old }
     {
         let e = self.fitted(made, work)?;
         let end = self.evaluate(e, work)?;

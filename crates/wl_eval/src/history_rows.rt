@@ -3,12 +3,14 @@ ghost use Rattle.std.specs.Prelude.{◌≡◌, ◌≤◌, ◌++◌, IfOk, IfSome
 ghost use Rattle.wl_desk.specs.MessageText.{argument_text};
 ghost use Rattle.wl_expr.specs.Stamped.{plain};
 ghost use Rattle.wl_expr.specs.Words.{fits, int_of};
+ghost use Rattle.wl_ports.specs.Name.{IsName};
 ghost use Rattle.wl_rules.specs.Entries.{message};
 ghost use Rattle.wl_rules.specs.Stored.{definitions};
 ghost use Rattle.wl_eval.specs.MessageRows as rows;
 ghost use Rattle.wl_eval.specs.Operands.{IsTextMade, as_message, name_and_text, only_int, only_message, out_line};
 ghost use Rattle.wl_eval.specs.Parts.{sized_row};
 ghost use Rattle.wl_eval.specs.Played.{Played, Sound, found_tree, trees};
+ghost use Rattle.wl_eval.specs.Marks.{at_last_mark};
 
 use crate::elements::is_symbol;
 use crate::ends::Stop;
@@ -45,7 +47,8 @@ fn joined(alloc: Global, args: &[Expr]) -> Result<String, Memory>
 
 /// The symbol and the tag of two elements that are a symbol and a text.
 fn name_and_text(args: &[Expr]) -> Option<(&str, &str)>
-    ensures { option_map (λ p. as_message (p.0.now, p.1.now)) result ≡ name_and_text (trees args.now) }
+    ensures value { option_map (λ p. as_message (p.0.now, p.1.now)) result ≡ name_and_text (trees args.now) }
+    ensures name { IfSome result (λ p. IsName p.0.now) }
 {
     let [symbol, tag] = args else {
         return None;
@@ -60,8 +63,9 @@ fn name_and_text(args: &[Expr]) -> Option<(&str, &str)>
 }
 
 /// The symbol and the tag of `symbol::tag`.
-fn message_name(e: &Expr) -> Option<(&str, &str)>
-    ensures { option_map (λ p. as_message (p.0.now, p.1.now)) result ≡ rows.message_name (plain e.now) }
+pub(crate) fn message_name(e: &Expr) -> Option<(&str, &str)>
+    ensures value { option_map (λ p. as_message (p.0.now, p.1.now)) result ≡ rows.message_name (plain e.now) }
+    ensures name { IfSome result (λ p. IsName p.0.now) }
 {
     let Look::Node(head, args) = e.view() else {
         return None;
@@ -135,7 +139,8 @@ impl Evaluator {
         tag: &str,
         work: &mut Work<L>,
     ) -> Option<Result<Expr, ExprFault>>
-        ensures { IsTextMade (message (definitions self.now.store name.now) tag.now) result }
+        ensures made { IsTextMade (message (definitions self.now.store name.now) tag.now) result }
+        ensures ticks { at_last_mark work.new ≡ at_last_mark work.old }
     {
         let Some(entry) = self.store.consult(name, work) else {
             return None;
@@ -162,6 +167,7 @@ impl Evaluator {
     ) -> Result<Option<Expr>, Stop>
         ensures played { Played found_tree (sized_row (rows.message_row (trees args.now))) self.old result self.new }
         ensures falls { self.new.steps ≤ self.old.steps }
+        ensures ticks { at_last_mark work.new ≡ at_last_mark work.old }
     {
         let Some((first, rest)) = args.split_first() else {
             return Ok(None);
@@ -210,6 +216,7 @@ impl Evaluator {
         requires sound { Sound self.old }
         ensures played { Played found_tree (sized_row (rows.message_name_row (trees args.now))) self.old result self.new }
         ensures falls { self.new.steps ≤ self.old.steps }
+        ensures ticks { at_last_mark work.new ≡ at_last_mark work.old }
     {
         let Some((name, tag)) = name_and_text(args) else {
             return Ok(None);

@@ -12,6 +12,7 @@ ghost use Rattle.wl_stamps.specs.Reads.{noted};
 ghost use Rattle.wl_eval.specs.Match as matching;
 ghost use Rattle.wl_eval.specs.Played.{Played, Plays, Looked, Sound, AllHonestRules, itself};
 ghost use Rattle.wl_eval.specs.Prog as prog;
+ghost use Rattle.wl_eval.specs.Marks.{at_last_mark};
 
 use crate::ends::Stop;
 use crate::evaluator::{Evaluator, Log};
@@ -48,6 +49,7 @@ impl Evaluator {
         requires sound { Sound self.old }
         ensures played { IfOk result (λ i. Looked name.now self.old i self.new) }
         ensures kept { self.new.steps ≡ self.old.steps }
+        ensures ticks { at_last_mark work.new ≡ at_last_mark work.old }
     {
         let index = self.store.index_of(name)?;
         let Some(log) = &mut self.log else {
@@ -63,6 +65,7 @@ impl Evaluator {
         requires sound { Sound self.old }
         ensures played { IfOk result (λ _. Plays (prog.entry_of name.now) self.old (Ok (definitions self.old.store name.now)) self.new false) }
         ensures kept { self.new.steps ≡ self.old.steps }
+        ensures ticks { at_last_mark work.new ≡ at_last_mark work.old }
     {
         if self.log.is_none() {
             return Ok(());
@@ -82,6 +85,7 @@ impl Evaluator {
         ensures played { IfOk result (λ a. Plays (prog.attributes_of (symbol name.now)) self.old (Ok a) self.new false) }
         ensures value { IfOk result (λ a. a ≡ (definitions self.old.store name.now).attributes) }
         ensures kept { self.new.steps ≡ self.old.steps }
+        ensures ticks { at_last_mark work.new ≡ at_last_mark work.old }
     {
         self.note_look(name, work)?;
         match self.store.consult(name, work) {
@@ -100,6 +104,7 @@ impl Evaluator {
         ensures played { IfOk result (λ b. Plays (prog.is_protected name.now) self.old (Ok b) self.new false) }
         ensures value { IfOk result (λ b. b ≡ (definitions self.new.store name.now).attributes.protected) }
         ensures kept { self.new.steps ≡ self.old.steps }
+        ensures ticks { at_last_mark work.new ≡ at_last_mark work.old }
     {
         let attributes = self.attributes_of(name, work)?;
         Ok(attributes.has(Attribute::Protected))
@@ -117,6 +122,7 @@ impl Evaluator {
         ensures rules { IfOk result (λ l. map plain_rule l ≡ of_kind kind (definitions self.old.store name.now).rules) }
         ensures honest { IfOk result (λ l. AllHonestRules self.new l) }
         ensures kept { self.new.steps ≡ self.old.steps }
+        ensures ticks { at_last_mark work.new ≡ at_last_mark work.old }
     {
         let index = self.look(name, work)?;
         Ok(self.store.rules(index, kind)?)
@@ -133,6 +139,7 @@ impl Evaluator {
             × Plays (matching.flags_of [] (heads (plain pattern.now))) self.old (Ok f) self.new false
             × (fs.items ≡ map f (heads (plain pattern.now)))) }
         ensures kept { self.new.steps ≡ self.old.steps }
+        ensures ticks { at_last_mark work.new ≡ at_last_mark work.old }
     {
         let mut flags = Vec::new(self.alloc);
         for k in 0..head_count(pattern) {

@@ -11,6 +11,7 @@ ghost use Rattle.wl_eval.specs.MatchRows as rows;
 ghost use Rattle.wl_eval.specs.Parts.{sized_row};
 ghost use Rattle.wl_eval.specs.Played.{AllHonest, Honest, Played, Sound, found_tree, itself, trees};
 ghost use Rattle.wl_eval.specs.Replacing.{agrees, found_trees, sifted, truth_symbol};
+ghost use Rattle.wl_eval.specs.Marks.{at_last_mark};
 
 use crate::ends::Stop;
 use crate::evaluator::Evaluator;
@@ -71,6 +72,7 @@ impl Evaluator {
         requires args { AllHonest self.old args.now }
         ensures played { Played found_tree (sized_row (rows.match_row (trees args.now))) self.old result self.new }
         ensures falls { self.new.steps ≤ self.old.steps }
+        ensures ticks { at_last_mark work.new ≡ at_last_mark work.old }
     {
         let _steps = self.steps;
         let Some((e, p)) = pair(args) else {
@@ -91,6 +93,7 @@ impl Evaluator {
         requires args { AllHonest self.old args.now }
         ensures played { Played found_tree (sized_row (rows.member_row (trees args.now))) self.old result self.new }
         ensures falls { self.new.steps ≤ self.old.steps }
+        ensures ticks { at_last_mark work.new ≡ at_last_mark work.old }
     {
         let Some((e, p)) = pair(args) else {
             return Ok(None);
@@ -110,6 +113,7 @@ impl Evaluator {
         requires args { AllHonest self.old args.now }
         ensures played { Played found_tree (sized_row (rows.count_row (trees args.now))) self.old result self.new }
         ensures falls { self.new.steps ≤ self.old.steps }
+        ensures ticks { at_last_mark work.new ≡ at_last_mark work.old }
     {
         let Some((e, p)) = pair(args) else {
             return Ok(None);
@@ -129,6 +133,7 @@ impl Evaluator {
         requires args { AllHonest self.old args.now }
         ensures played { Played found_tree (sized_row (rows.cases_row (trees args.now))) self.old result self.new }
         ensures falls { self.new.steps ≤ self.old.steps }
+        ensures ticks { at_last_mark work.new ≡ at_last_mark work.old }
     {
         let Some((e, p)) = pair(args) else {
             return Ok(None);
@@ -149,6 +154,7 @@ impl Evaluator {
         requires args { AllHonest self.old args.now }
         ensures played { Played found_tree (sized_row (rows.delete_cases_row (trees args.now))) self.old result self.new }
         ensures falls { self.new.steps ≤ self.old.steps }
+        ensures ticks { at_last_mark work.new ≡ at_last_mark work.old }
     {
         let Some((e, p)) = pair(args) else {
             return Ok(None);
@@ -172,6 +178,7 @@ impl Evaluator {
         requires args { AllHonest self.old args.now }
         ensures played { Played found_tree (sized_row (rows.free_row (trees args.now))) self.old result self.new }
         ensures falls { self.new.steps ≤ self.old.steps }
+        ensures ticks { at_last_mark work.new ≡ at_last_mark work.old }
     {
         let Some((e, p)) = pair(args) else {
             return Ok(None);
@@ -195,6 +202,7 @@ impl Evaluator {
         requires elements { AllHonest self.old elements.now }
         ensures played { Played itself (rows.any_matches (plain p.now) (trees elements.now)) self.old result self.new }
         ensures falls { self.new.steps ≤ self.old.steps }
+        ensures ticks { at_last_mark work.new ≡ at_last_mark work.old }
     {
         for i in 0..elements.len() {
             let _steps = self.steps;
@@ -219,6 +227,7 @@ impl Evaluator {
         requires elements { AllHonest self.old elements.now }
         ensures played { Played itself (rows.count_matching 0 (plain p.now) (trees elements.now)) self.old result self.new }
         ensures falls { self.new.steps ≤ self.old.steps }
+        ensures ticks { at_last_mark work.new ≡ at_last_mark work.old }
     {
         let mut count: usize = 0;
         for i in 0..elements.len() {
@@ -246,6 +255,7 @@ impl Evaluator {
         requires elements { AllHonest self.old elements.now }
         ensures played { Played found_trees (sifted wanted [] (plain p.now) (trees elements.now)) self.old result self.new }
         ensures falls { self.new.steps ≤ self.old.steps }
+        ensures ticks { at_last_mark work.new ≡ at_last_mark work.old }
     {
         let mut found = Vec::new(self.alloc);
         for i in 0..elements.len() {
@@ -273,6 +283,7 @@ impl Evaluator {
         requires elements { AllHonest self.old elements.now }
         ensures played { Played found_trees (rows.cases_in (trees elements.now) (plain p.now) (rows.delayed_rule (plain p.now))) self.old result self.new }
         ensures falls { self.new.steps ≤ self.old.steps }
+        ensures ticks { at_last_mark work.new ≡ at_last_mark work.old }
     {
         match delayed_rule(self.alloc, p)? {
             None => self.sifted(true, p, elements, work),
@@ -293,6 +304,7 @@ impl Evaluator {
         requires elements { AllHonest self.old elements.now }
         ensures played { Played found_trees (rows.cases_by [] (plain_rule rule.now) (trees elements.now)) self.old result self.new }
         ensures falls { self.new.steps ≤ self.old.steps }
+        ensures ticks { at_last_mark work.new ≡ at_last_mark work.old }
     {
         let mut found = Vec::new(self.alloc);
         for i in 0..elements.len() {
@@ -313,6 +325,7 @@ impl Evaluator {
         requires honest { Honest self.old e.now }
         ensures played { Played itself (rows.any_matches (plain p.now) (rows.parts (plain e.now))) self.old result self.new }
         ensures falls { self.new.steps ≤ self.old.steps }
+        ensures ticks { at_last_mark work.new ≡ at_last_mark work.old }
     {
         let _steps = self.steps;
         let found = self.matches(p, e, work)?;
@@ -342,6 +355,7 @@ impl Evaluator {
         requires elements { AllHonest self.old elements.now }
         ensures played { Played itself (rows.any_matches (plain p.now) (rows.parts_in (from_list (trees elements.now)))) self.old result self.new }
         ensures falls { self.new.steps ≤ self.old.steps }
+        ensures ticks { at_last_mark work.new ≡ at_last_mark work.old }
     {
         for i in 0..elements.len() {
             let found = self.any_part(p, &elements[i], work)?;

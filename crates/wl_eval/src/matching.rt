@@ -12,6 +12,7 @@ ghost use Rattle.wl_match.specs.Trials.{Trials};
 ghost use Rattle.wl_eval.specs.Match as matching;
 ghost use Rattle.wl_eval.specs.Played.{AllHonest, Honest, Makes, Played, Sound, itself, trees};
 ghost use Rattle.wl_eval.specs.Searching.{HonestView, next_binding, next_found, passes_within, refuses_within, tests_within, true_of_built};
+ghost use Rattle.wl_eval.specs.Marks.{at_last_mark};
 
 use crate::elements::is_symbol;
 use crate::ends::Stop;
@@ -38,6 +39,7 @@ impl Evaluator {
         ensures searches { Searches pattern.now (plain e.now) machine.new }
         ensures falls { self.new.steps ≤ self.old.steps }
         ensures less { IfOk result (λ b. b ≡ true → self.new.steps + 1 ≤ self.old.steps) }
+        ensures ticks { at_last_mark work.new ≡ at_last_mark work.old }
     {
         'leaves: loop {
             let leaf = machine.next(pattern, e, work)?;
@@ -66,6 +68,7 @@ impl Evaluator {
         ensures played { (n : ℕ) → self.old.steps < n
             → Played itself (matching.matches_within n (plain p.now) (plain e.now)) self.old result self.new }
         ensures falls { self.new.steps ≤ self.old.steps }
+        ensures ticks { at_last_mark work.new ≡ at_last_mark work.old }
     {
         let flags = self.flags_of(p, work)?;
         let pattern = Pattern::prepare(self.alloc, p, flags.as_slice())?;
@@ -86,6 +89,7 @@ impl Evaluator {
         ensures played { (n : ℕ) → self.old.steps ≤ n
             → Played itself (passes_within n (Trials (whole pattern.now) (plain e.now))) self.old result self.new }
         ensures falls { self.new.steps ≤ self.old.steps }
+        ensures ticks { at_last_mark work.new ≡ at_last_mark work.old }
     {
         let mut machine = Machine::start(self.alloc);
         'bindings: loop {
@@ -113,6 +117,7 @@ impl Evaluator {
         ensures played { (n : ℕ) → self.old.steps < n
             → Played itself (tests_within n (trail_in view.now)) self.old result self.new }
         ensures falls { self.new.steps ≤ self.old.steps }
+        ensures ticks { at_last_mark work.new ≡ at_last_mark work.old }
     {
         for k in 0..u32::MAX {
             match view.test(k) {
@@ -143,6 +148,7 @@ impl Evaluator {
         ensures played { (n : ℕ) (a : Ask) (r : List Tree) → self.old.steps < n → Asks test.entry a r
             → Played itself (matching.test_holds (λ p t. matching.matches_within n p t) (matching.runs (trail_in view.now)) a r) self.old result self.new }
         ensures falls { self.new.steps ≤ self.old.steps }
+        ensures ticks { at_last_mark work.new ≡ at_last_mark work.old }
     {
         match test {
             Test::Applies(f, run) => {
@@ -173,6 +179,7 @@ impl Evaluator {
         requires elements { AllHonest self.old elements.now }
         ensures played { Played itself (matching.each_applies (plain f.now) (trees elements.now)) self.old result self.new }
         ensures falls { self.new.steps ≤ self.old.steps }
+        ensures ticks { at_last_mark work.new ≡ at_last_mark work.old }
     {
         for i in 0..elements.len() {
             let made = Expr::node(self.alloc, f, slice::from_ref(&elements[i]));
@@ -198,6 +205,7 @@ impl Evaluator {
         ensures played { (n : ℕ) → self.old.steps < n
             → Played itself (refuses_within n (plain pattern.now) (trees elements.now)) self.old result self.new }
         ensures falls { self.new.steps ≤ self.old.steps }
+        ensures ticks { at_last_mark work.new ≡ at_last_mark work.old }
     {
         if elements.len() != 1 {
             return Ok(false);
@@ -217,6 +225,7 @@ impl Evaluator {
         requires honest { IfOk made (Honest self.old) }
         ensures played { (t : Tree) → Makes t made → Played itself (true_of_built t) self.old result self.new }
         ensures falls { self.new.steps ≤ self.old.steps }
+        ensures ticks { at_last_mark work.new ≡ at_last_mark work.old }
     {
         let value = self.value_of_built(made, work)?;
         Ok(is_symbol(&value, "True"))

@@ -5,6 +5,7 @@ ghost use Rattle.wl_expr.specs.Tree.{symbol};
 ghost use Rattle.wl_eval.specs.Definitions as definitions;
 ghost use Rattle.wl_eval.specs.LeftSides.{is_limit};
 ghost use Rattle.wl_eval.specs.Played.{Plays};
+ghost use Rattle.wl_eval.specs.Marks.{at_last_mark};
 
 use crate::evaluator::Evaluator;
 use wl_expr::Expr;
@@ -33,6 +34,7 @@ impl Evaluator {
         requires { plain subject.now ≡ symbol name.now }
         ensures played { IfOk result (λ _. Plays (definitions.limset name.now (plain value.now)) self.old (Ok tt) self.new false) }
         ensures kept { self.new.steps ≡ self.old.steps }
+        ensures ticks { at_last_mark work.new ≡ at_last_mark work.old }
     {
         let args = [subject.copy()?, value.copy()?];
         self.issue(name, "limset", &args, work)

@@ -9,6 +9,7 @@ ghost use Rattle.wl_shape.specs.Shape.{rebuilt, shape};
 ghost use Rattle.wl_eval.specs.Elements.{bare, bared, is_bared, is_unevaluated};
 ghost use Rattle.wl_eval.specs.Played.{Plays, Sound, trees};
 ghost use Rattle.wl_eval.specs.Prog as prog;
+ghost use Rattle.wl_eval.specs.Marks.{at_last_mark};
 
 use crate::elements::{is_form, is_symbol};
 use crate::evaluator::Evaluator;
@@ -113,6 +114,7 @@ impl Evaluator {
         requires sound { Sound self.old }
         ensures played { IfOk result (λ a. Plays (prog.attributes_of (plain head.now)) self.old (Ok a) self.new false) }
         ensures kept { self.new.steps ≡ self.old.steps }
+        ensures ticks { at_last_mark work.new ≡ at_last_mark work.old }
     {
         match head.view() {
             Look::Symbol(name) => self.attributes_of(name, work),

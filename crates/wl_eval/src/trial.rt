@@ -9,10 +9,12 @@ ghost use Rattle.wl_eval.specs.Honest.{HonestRule};
 ghost use Rattle.wl_eval.specs.Match as matching;
 ghost use Rattle.wl_eval.specs.Played.{AllHonest, AllHonestRules, Honest, Played, Sound, found_tree};
 ghost use Rattle.wl_eval.specs.Searching.{HonestView};
+ghost use Rattle.wl_eval.specs.Marks.{at_last_mark};
 
 use crate::ends::Stop;
 use crate::evaluator::Evaluator;
 use crate::guard::is_guarded;
+use crate::literal::matches_itself;
 use wl_expr::Expr;
 use wl_match::{Machine, Pattern, View};
 use wl_ports::{Ledger, Work};
@@ -33,12 +35,37 @@ impl Evaluator {
         requires honest { Honest self.old e.now }
         ensures played { Played found_tree (matching.trial (map plain_rule rules.now) (plain e.now)) self.old result self.new }
         ensures falls { self.new.steps ≤ self.old.steps }
+        ensures ticks { at_last_mark work.new ≡ at_last_mark work.old }
     {
         for i in 0..rules.len() {
             let Some(rule) = rules.at(i) else {
                 unreachable!()
             };
             let found = self.rule_result(rule, e, work)?;
+            if let Some(result) = found {
+                return Ok(Some(result));
+            }
+        }
+        Ok(None)
+    }
+
+    /// The result of the first of these rules, which were read in an expression, that applies.
+    #[cycle(eval)]
+    pub(crate) fn first_result<L: Ledger>(
+        &mut self,
+        rules: &[Rule],
+        e: &Expr,
+        work: &mut Work<L>,
+    ) -> Result<Option<Expr>, Stop>
+        requires sound { Sound self.old }
+        requires rules { AllHonestRules self.old rules.now }
+        requires honest { Honest self.old e.now }
+        ensures played { Played found_tree (matching.trial (map plain_rule rules.now) (plain e.now)) self.old result self.new }
+        ensures falls { self.new.steps ≤ self.old.steps }
+        ensures ticks { at_last_mark work.new ≡ at_last_mark work.old }
+    {
+        for i in 0..rules.len() {
+            let found = self.rule_result(&rules[i], e, work)?;
             if let Some(result) = found {
                 return Ok(Some(result));
             }
@@ -59,8 +86,13 @@ impl Evaluator {
         requires honest { Honest self.old e.now }
         ensures played { Played found_tree (matching.rule_result (plain_rule rule.now) (plain e.now)) self.old result self.new }
         ensures falls { self.new.steps ≤ self.old.steps }
+        ensures ticks { at_last_mark work.new ≡ at_last_mark work.old }
     {
         let flags = self.flags_of(&rule.left, work)?;
+        if matches_itself(&rule.left, flags.as_slice()) && !rule.left.same(e) {
+            self.take_step()?;
+            return Ok(None);
+        }
         let pattern = Pattern::prepare(self.alloc, &rule.left, flags.as_slice())?;
         self.first_filling(&pattern, e, &rule.body, work)
     }
@@ -80,6 +112,7 @@ impl Evaluator {
         requires body { Honest self.old body.now }
         ensures played { Played found_tree (matching.walk (matching.filling (plain body.now)) (Trials (whole pattern.now) (plain e.now))) self.old result self.new }
         ensures falls { self.new.steps ≤ self.old.steps }
+        ensures ticks { at_last_mark work.new ≡ at_last_mark work.old }
     {
         let mut machine = Machine::start(self.alloc);
         'bindings: loop {
@@ -108,6 +141,7 @@ impl Evaluator {
         requires body { Honest self.old body.now }
         ensures played { Played found_tree (matching.filling (plain body.now) (trail_in view.now)) self.old result self.new }
         ensures falls { self.new.steps ≤ self.old.steps }
+        ensures ticks { at_last_mark work.new ≡ at_last_mark work.old }
     {
         let _steps = self.steps;
         let holds = self.tests_hold(view, work)?;

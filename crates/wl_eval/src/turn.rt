@@ -8,6 +8,7 @@ ghost use Rattle.wl_eval.specs.Elements.{bared, is_bared};
 ghost use Rattle.wl_eval.specs.Parts.{turned_by};
 ghost use Rattle.wl_eval.specs.Played.{AllHonest, Honest, Played, Sound, trees, turned};
 ghost use Rattle.wl_eval.specs.Turn as turn;
+ghost use Rattle.wl_eval.specs.Marks.{at_last_mark};
 
 use crate::ends::{Stop, Turned};
 use crate::evaluator::Evaluator;
@@ -45,6 +46,7 @@ impl Evaluator {
         requires honest { Honest self.old e.now }
         ensures played { Played turned (turn.turn (plain e.now)) self.old result self.new }
         ensures falls { self.new.steps ≤ self.old.steps }
+        ensures ticks { at_last_mark work.new ≡ at_last_mark work.old }
     {
         match e.view() {
             Look::Num(_) => Ok(Turned::Final(e.copy()?, true)),
@@ -67,6 +69,7 @@ impl Evaluator {
         requires named { plain e.now ≡ symbol name.now }
         ensures played { Played turned (turn.symbol_turn name.now) self.old result self.new }
         ensures falls { self.new.steps ≤ self.old.steps }
+        ensures ticks { at_last_mark work.new ≡ at_last_mark work.old }
     {
         let found = self.tried(RuleKind::Own, name, e, work)?;
         Ok(turned(found, e, e, true)?)
@@ -84,6 +87,7 @@ impl Evaluator {
         requires args { AllHonest self.old args.now }
         ensures played { Played turned (turn.node_turn (plain head.now) (trees args.now)) self.old result self.new }
         ensures falls { self.new.steps ≤ self.old.steps }
+        ensures ticks { at_last_mark work.new ≡ at_last_mark work.old }
     {
         let head = self.value_of(head, work)?;
         let attributes = self.attributes_of_head(&head, work)?;
@@ -111,6 +115,7 @@ impl Evaluator {
         ensures played { Played turned (turn.shaped_turn attributes (plain first.now) (is_bared attributes (trees values.now))
             (shape attributes (plain head.now) (bared attributes (trees values.now)))) self.old result self.new }
         ensures falls { self.new.steps ≤ self.old.steps }
+        ensures ticks { at_last_mark work.new ≡ at_last_mark work.old }
     {
         // That the first form is within the limits is a clause of `weight`; so then is a rebuilt form.
         let _weight = first.weight();
@@ -144,6 +149,7 @@ impl Evaluator {
         requires form { Honest self.old form.now }
         ensures played { Played turned (turn.rules_turn attributes (plain first.now) changed (plain form.now)) self.old result self.new }
         ensures falls { self.new.steps ≤ self.old.steps }
+        ensures ticks { at_last_mark work.new ≡ at_last_mark work.old }
     {
         let found = self.applied_rule(attributes, form, work)?;
         let last = final_form(changed, first, form);

@@ -3,9 +3,13 @@ use Rattle.std.proofs.Common.{◌≡◌, ◌+◌, ◌++◌, ℕ, List, [], ◌�
 use Rattle.std.specs.Io.KnownBytes.{Appends}
 use Rattle.std.proofs.lemmas.List.{map-append}
 use Rattle.std.proofs.KnownBytes.{Appends-trans, Appends-nil}
-use Rattle.wl_session.specs.Answers.{SessionState, IsAnswer, outcome, shown, after, state_after, answers}
+use Rattle.wl_session.specs.Answers.{IsAnswer, answer_to, state_after, answers}
+use Rattle.wl_eval.proofs.Ticking.{marked}
+use Rattle.wl_eval.specs.Marks.{at_last_mark}
 use Rattle.wl_session.specs.Counting.{HasBegun}
+use Rattle.wl_session.specs.Line.{SessionState}
 use Rattle.wl_session.specs.Reading.{Reading, IsReading, AllRead}
+use Rattle.wl_session.specs.declared.session.LineEnd.{LineEnd}
 use Rattle.wl_session.specs.Transcript.{texts}
 use Rattle.wl_scan.specs.Cells.{Cutting, CellText, PlacedCell, cut, ended}
 use Rattle.wl_session.specs.Streaming.{HasAnswered, HasFed}
@@ -15,8 +19,26 @@ use Rattle.wl_scan.proofs.Pieces.{cut_append, ended_append, taken_cut}
 pub begun_none : (m n : List ℕ) → n ≡ m → HasBegun 0 m n
 begun_none m n same = record { new = []; behind = same ∙ sym (append-nil m); each = refl }
 
-pub begun_one : (m n : List ℕ) → n ≡ m ++ 0 ∷ [] → HasBegun 1 m n
-begun_one m n marked = record { new = 0 ∷ []; behind = marked; each = refl }
+one_behind : (m o : List ℕ) → at_last_mark o ≡ m ++ 0 ∷ [] → (k : ℕ) × (o ≡ m ++ k ∷ [])
+one_behind [] [] e = cc
+one_behind [] (x ∷ []) e = (x, refl)
+one_behind [] (x ∷ y ∷ []) e = cc
+one_behind [] (x ∷ y ∷ z ∷ zs) e = cc
+one_behind (x ∷ m) [] e = cc
+one_behind (x ∷ m) (y ∷ []) e = absurd (no_more m (let rest : [] ≡ m ++ 0 ∷ [] = cc in rest))
+  where
+    no_more : (l : List ℕ) → [] ≡ l ++ 0 ∷ [] → ⊥
+    no_more [] q = cc
+    no_more (z ∷ l) q = cc
+one_behind (x ∷ m) (y ∷ z ∷ zs) e =
+    let (k, is) = one_behind m (z ∷ zs) (let rest : at_last_mark (z ∷ zs) ≡ m ++ 0 ∷ [] = cc in rest) in
+    let first : y ≡ x = cc in
+    (k, ap (λ (l : List ℕ). y ∷ l) is ∙ ap (λ (n : ℕ). n ∷ m ++ k ∷ []) first)
+
+-- a mark, and then ticks
+pub begun_one : (m n o : List ℕ) → n ≡ m ++ 0 ∷ [] → at_last_mark o ≡ at_last_mark n → HasBegun 1 m o
+begun_one m n o marks ticks =
+    let (k, is) = one_behind m o (ticks ∙ ap at_last_mark marks ∙ marked m 0) in record { new = k ∷ []; behind = is; each = refl }
 
 pub begun_on : (j k l : ℕ) (m n o : List ℕ) → HasBegun j m n → HasBegun k n o → l ≡ j + k → HasBegun l m o
 begun_on j k l m n o so_far more sum = record {
@@ -27,13 +49,14 @@ begun_on j k l m n o so_far more sum = record {
 
 pub state_append : (s : SessionState) (rs qs : List Reading) → state_after s (rs ++ qs) ≡ state_after (state_after s rs) qs
 state_append s [] qs = refl
-state_append s (r ∷ rs) qs = state_append (after s (outcome r)) rs qs
+state_append s (r ∷ rs) qs = state_append (answer_to s r).session rs qs
 
 pub answers_append : (s : SessionState) (rs qs : List Reading) → answers s (rs ++ qs) ≡ answers s rs ++ answers (state_after s rs) qs
 answers_append s [] qs = refl
 answers_append s (r ∷ rs) qs =
-    let first = shown (length s.history + 1) (outcome r) in
-    ap (λ (l : List ℕ). first ++ l) (answers_append (after s (outcome r)) rs qs) ∙ sym (append_assoc first (answers (after s (outcome r)) rs) (answers (state_after (after s (outcome r)) rs) qs))
+    let first = (answer_to s r).pending in
+    let next = (answer_to s r).session in
+    ap (λ (l : List ℕ). first ++ l) (answers_append next rs qs) ∙ sym (append_assoc first (answers next rs) (answers (state_after next rs) qs))
 
 pub all_read_append : (cs ds : List CellText) (rs qs : List Reading) → AllRead cs rs → AllRead ds qs → AllRead (cs ++ ds) (rs ++ qs)
 all_read_append [] ds [] qs p q = q
@@ -42,13 +65,13 @@ all_read_append (c ∷ cs) ds [] qs p q = absurd p
 all_read_append (c ∷ cs) ds (r ∷ rs) qs p q = (p.0, all_read_append cs ds rs qs p.1 q)
 
 -- one cell
-pub one_answered : (s s' : SessionState) (h h' : Option (List ℕ)) (m m' : List ℕ) (c d : CellText) (bytes : List ℕ) → IsAnswer c s s' bytes → c ≡ d → Appends h h' bytes → m' ≡ m ++ 0 ∷ [] → HasAnswered s s' h h' m m' (d ∷ [])
-one_answered s s' h h' m m' c d bytes one same wrote marks = record {
+pub one_answered : (s s' : SessionState) (h h' : Option (List ℕ)) (m m' : List ℕ) (c d : CellText) (end : LineEnd) (bytes : List ℕ) → IsAnswer c s s' end bytes → c ≡ d → Appends h h' bytes → HasBegun 1 m m' → HasAnswered s s' h h' m m' (d ∷ [])
+one_answered s s' h h' m m' c d end bytes one same wrote marks = record {
   readings = one.reading ∷ [];
   reads = (subst (λ (x : CellText). IsReading x one.reading) same one.reads, tt);
   state = one.state;
-  written = subst (Appends h h') (one.pending ∙ sym (append-nil (shown (length s.history + 1) (outcome one.reading)))) wrote;
-  begun = begun_one m m' marks;
+  written = subst (Appends h h') (one.pending ∙ sym (append-nil (answer_to s one.reading).pending)) wrote;
+  begun = marks;
 }
 
 -- these cells, and then those

@@ -5,28 +5,25 @@ use Rattle.std.proofs.lemmas.List.{take-append-le}
 use Rattle.std.proofs.KnownBytes.{Consumes-nil}
 use Rattle.std.specs.Io.KnownBytes.{Appends, Consumes, IsAtEnd}
 use Rattle.wl_ports.specs.Causes.{Rose, next_count}
-use Rattle.wl_session.specs.Answers.{SessionState, fresh, state_after, answers}
+use Rattle.wl_expr.specs.Words.{Name}
+use Rattle.wl_session.specs.Answers.{fresh, state_after, answers}
+use Rattle.wl_session.specs.Line.{SessionState}
 use Rattle.wl_session.specs.Counting.{HasBegun}
 use Rattle.wl_session.specs.Reading.{Reading, AllRead}
 use Rattle.wl_scan.specs.Cells.{CellText}
 use Rattle.wl_scan.specs.Cells.{cells, ended, start}
-use Rattle.wl_session.specs.Ends.{status_of, IsTranscript, IsCutShort, HasTaken, HasTakenFew, IsReadToEnd, IsFaultless, HasRisen}
+use Rattle.wl_session.specs.Ends.{status_of, IsTranscript, IsLeftWith, IsCutShort, HasTaken, HasTakenFew, IsReadToEnd, IsFaultless, HasRisen}
 use Rattle.wl_session.specs.SessionView.{SessionView, state_of}
 use Rattle.wl_session.specs.Stopping.{Played, StopsShort}
 use Rattle.wl_session.specs.Streaming.{IsBlamed, PlayedToEnd, PlayedToLimit}
 use Rattle.wl_session.proofs.Answering.{begun_on}
+use Rattle.wl_session.proofs.Numbers.{short_read, long_read, ended_texts_few, number_of}
 use Rattle.wl_session.specs.Transcript.{transcript, cells_read, texts, input_limit}
 use Rattle.wl_session.specs.declared.streaming.Stop.{Stop}
 use Rattle.wl_session.specs.declared.streaming.Stop.TheVariants.{ReadFault, WriteFault, OutOfMemory, TooLong}
 
-pub short_read : (name : Option (List ℕ)) (bytes : List ℕ) → length bytes ≤ input_limit → cells_read (Some name) bytes ≡ texts (cells bytes)
-short_read name bytes few = let is_few : nat_le (length bytes) input_limit ≡ true = grind (arith, nat_tests) in rw is_few refl
-
-short_status : (name : Option (List ℕ)) (bytes : List ℕ) (readings : List Reading) → length bytes ≤ input_limit → (transcript (Some name) bytes readings).status ≡ cond (state_after fresh readings).refused 1 0
+short_status : (name : Option (List ℕ)) (bytes : List ℕ) (readings : List Reading) → length bytes ≤ input_limit → (transcript (Some name) bytes readings).status ≡ cond (state_after fresh readings).flawed 1 0
 short_status name bytes readings few = let is_few : nat_le (length bytes) input_limit ≡ true = grind (arith, nat_tests) in rw is_few refl
-
-pub long_read : (name : Option (List ℕ)) (bytes : List ℕ) → input_limit < length bytes → cells_read (Some name) bytes ≡ texts (ended start (take input_limit bytes))
-long_read name bytes many = let is_many : nat_le (length bytes) input_limit ≡ false = grind (arith, nat_tests) in rw is_many refl
 
 long_status : (name : Option (List ℕ)) (bytes : List ℕ) (readings : List Reading) → input_limit < length bytes → (transcript (Some name) bytes readings).status ≡ 6
 long_status name bytes readings many = let is_many : nat_le (length bytes) input_limit ≡ false = grind (arith, nat_tests) in rw is_many refl
@@ -51,7 +48,15 @@ taken_same (Some bytes) (Some ys) xs zs tells p q = omega (arith, ap length p, a
 no_fault : (before now : ℕ) → IsFaultless before now → ¬ Rose before now
 no_fault before now faultless rose = absurd (omega (arith, faultless.kept, faultless.below))
 
-all_is_transcript : (name : Option (List ℕ)) (bytes : List ℕ) (view : SessionView) (b h i : Option (List ℕ)) (m n : List ℕ) (status : ℕ) → PlayedToEnd (Some bytes) b fresh (state_of view) h i m n → status ≡ cond view.refused 1 0
+-- what a session in this state has
+pub left_with : (view : SessionView) (s : SessionState) → state_of view ≡ s → IsLeftWith s (Some view)
+left_with view s is = record {
+  history = ap (λ (t : SessionState). t.state.world.history) is;
+  definitions = λ (x : Name). ap (λ (t : SessionState). t.state.world.definitions x) is;
+  counts = ap (λ (t : SessionState). t.counts) is;
+}
+
+all_is_transcript : (name : Option (List ℕ)) (bytes : List ℕ) (view : SessionView) (b h i : Option (List ℕ)) (m n : List ℕ) (status : ℕ) → PlayedToEnd (Some bytes) b fresh (state_of view) h i m n → status ≡ cond view.flawed 1 0
     → IsTranscript (Some name) bytes (record { status = status; session = Some view }) h i
 all_is_transcript name bytes view b h i m n status all says =
     let whole = taken_all bytes all.bytes b all.taken all.at_end in
@@ -59,9 +64,11 @@ all_is_transcript name bytes view b h i m n status all says =
     record {
       readings = all.answered.readings;
       reads = subst (λ (cs : List CellText). AllRead cs all.answered.readings) (ap (λ (l : List ℕ). texts (cells l)) whole ∙ sym (short_read name bytes few)) all.answered.reads;
-      status = says ∙ ap (λ (s : SessionState). cond s.refused 1 0) all.answered.state ∙ sym (short_status name bytes all.answered.readings few);
+      status = says ∙ ap (λ (s : SessionState). cond s.flawed 1 0) all.answered.state ∙ sym (short_status name bytes all.answered.readings few);
       out = all.answered.written;
-      history = ap (λ (s : SessionState). s.history) all.answered.state;
+      history = ap (λ (s : SessionState). s.state.world.history) all.answered.state;
+      definitions = λ (x : Name). ap (λ (s : SessionState). s.state.world.definitions x) all.answered.state;
+      counts = ap (λ (s : SessionState). s.counts) all.answered.state;
     }
 
 first_is_transcript : (name : Option (List ℕ)) (bytes : List ℕ) (view : SessionView) (b h i : Option (List ℕ)) (m n : List ℕ) → PlayedToLimit (Some bytes) b fresh (state_of view) h i m n
@@ -73,18 +80,20 @@ first_is_transcript name bytes view b h i m n first =
       reads = subst (λ (cs : List CellText). AllRead cs first.answered.readings) (ap (λ (l : List ℕ). texts (ended start l)) front ∙ sym (long_read name bytes longer)) first.answered.reads;
       status = sym (long_status name bytes first.answered.readings longer);
       out = first.answered.written;
-      history = ap (λ (s : SessionState). s.history) first.answered.state;
+      history = ap (λ (s : SessionState). s.state.world.history) first.answered.state;
+      definitions = λ (x : Name). ap (λ (s : SessionState). s.state.world.definitions x) first.answered.state;
+      counts = ap (λ (s : SessionState). s.counts) first.answered.state;
     }
 
-done_status : (done : Unit {0}) (refused : Bool) → status_of (Ok done) refused ≡ cond refused 1 0
+done_status : (done : Unit {0}) (flawed : Bool) → status_of (Ok done) flawed ≡ cond flawed 1 0
 done_status done true = refl
 done_status done false = refl
 
 -- the transcript, by how the run was played
-played_is_transcript : (r : Result (Unit {0}) Stop) (name : Option (List ℕ)) (bytes : List ℕ) (view : SessionView) (b h i : Option (List ℕ)) (m n : List ℕ) (x x' y y' status : ℕ) → status ≡ status_of r view.refused
+played_is_transcript : (r : Result (Unit {0}) Stop) (name : Option (List ℕ)) (bytes : List ℕ) (view : SessionView) (b h i : Option (List ℕ)) (m n : List ℕ) (x x' y y' status : ℕ) → status ≡ status_of r view.flawed
     → Played r (Some bytes) b fresh (state_of view) h i m n → IsBlamed r x x' y y' → ¬ Rose x x' → ¬ Rose y y' → status ≢ 5 → IsTranscript (Some name) bytes (record { status = status; session = Some view }) h i
 played_is_transcript (Ok done) name bytes view b h i m n x x' y y' status is played blamed no_read_fault no_write_fault some_memory =
-    all_is_transcript name bytes view b h i m n status played (is ∙ done_status done view.refused)
+    all_is_transcript name bytes view b h i m n status played (is ∙ done_status done view.flawed)
 played_is_transcript (Err ReadFault) name bytes view b h i m n x x' y y' status is played blamed no_read_fault no_write_fault some_memory = absurd (no_read_fault blamed.0)
 played_is_transcript (Err WriteFault) name bytes view b h i m n x x' y y' status is played blamed no_read_fault no_write_fault some_memory = absurd (no_write_fault blamed.1)
 played_is_transcript (Err OutOfMemory) name bytes view b h i m n x x' y y' status is played blamed no_read_fault no_write_fault some_memory = absurd (some_memory is)
@@ -93,7 +102,7 @@ played_is_transcript (Err TooLong) name bytes view b h i m n x x' y y' status is
 
 -- the same of a source that may not tell its bytes
 pub played_transcript : (r : Result (Unit {0}) Stop) (asked : Option (Option (List ℕ))) (name : Option (List ℕ)) (view : SessionView) (a b h i : Option (List ℕ)) (s : SessionState) (m n : List ℕ) (x x' y y' status : ℕ) → Some name ≡ asked → s ≡ fresh
-    → status ≡ status_of r view.refused → Played r a b s (state_of view) h i m n → IsBlamed r x x' y y'
+    → status ≡ status_of r view.flawed → Played r a b s (state_of view) h i m n → IsBlamed r x x' y y'
     → IfSome a (λ bytes. ¬ Rose x x' → ¬ Rose y y' → status ≢ 5 → IsTranscript asked bytes (record { status = status; session = Some view }) h i)
 played_transcript r asked name view None b h i s m n x x' y y' status read new is played blamed = tt
 played_transcript r asked name view (Some bytes) b h i s m n x x' y y' status read new is played blamed = λ no_read_fault no_write_fault some_memory.
@@ -101,11 +110,11 @@ played_transcript r asked name view (Some bytes) b h i s m n x x' y y' status re
     (played_is_transcript r name bytes view b h i m n x x' y y' status is (subst (λ (t : SessionState). Played r (Some bytes) b t (state_of view) h i m n) new played) blamed no_read_fault no_write_fault some_memory)
 
 -- a read fault leaves the cells answered that ended before it
-pub played_cut_short : (r : Result (Unit {0}) Stop) (view : SessionView) (a b h i : Option (List ℕ)) (s : SessionState) (m n : List ℕ) (status : ℕ) → s ≡ fresh → status ≡ status_of r view.refused → Played r a b s (state_of view) h i m n → status ≡ 3
+pub played_cut_short : (r : Result (Unit {0}) Stop) (view : SessionView) (a b h i : Option (List ℕ)) (s : SessionState) (m n : List ℕ) (status : ℕ) → s ≡ fresh → status ≡ status_of r view.flawed → Played r a b s (state_of view) h i m n → status ≡ 3
     → IsCutShort (record { status = status; session = Some view }) a b h i m n
-played_cut_short (Ok done) view a b h i s m n status new is played three = absurd (not_three view.refused (sym is ∙ three))
+played_cut_short (Ok done) view a b h i s m n status new is played three = absurd (not_three view.flawed (sym is ∙ three))
   where
-    not_three : (refused : Bool) → status_of (Ok done) refused ≡ 3 → ⊥
+    not_three : (flawed : Bool) → status_of (Ok done) flawed ≡ 3 → ⊥
     not_three true e = omega arith
     not_three false e = omega arith
 played_cut_short (Err WriteFault) view a b h i s m n status new is played three = absurd (omega arith)
@@ -118,7 +127,10 @@ played_cut_short (Err ReadFault) view a b h i s m n status new is played three =
   readings = played.answered.readings;
   reads = played.answered.reads;
   out = subst (λ (t : SessionState). Appends h i (answers t played.answered.readings)) new played.answered.written;
-  history = ap (λ (t : SessionState). t.history) (played.answered.state ∙ ap (λ (t : SessionState). state_after t played.answered.readings) new);
+  left_with = left_with view _ (played.answered.state ∙ ap (λ (t : SessionState). state_after t played.answered.readings) new);
+  number =
+      ap (λ (t : SessionState). t.counts.cells) (played.answered.state ∙ ap (λ (t : SessionState). state_after t played.answered.readings) new)
+      ∙ number_of _ played.answered.readings played.answered.reads (omega (arith, ended_texts_few start played.bytes, played.few));
   counted = played.answered.begun;
 }
 
@@ -138,19 +150,19 @@ neither : (k status : ℕ) → status ≡ k → 1 < k → k < 6 → (status ≤ 
 neither k status is more less (inl few) = omega arith
 neither k status is more less (inr six) = omega arith
 
-begun_of_bytes : (r : Result (Unit {0}) Stop) (name : Option (List ℕ)) (refused : Bool) (bytes : List ℕ) (b h i : Option (List ℕ)) (s s' : SessionState) (m n : List ℕ) (status : ℕ) → status ≡ status_of r refused → Played r (Some bytes) b s s' h i m n
+begun_of_bytes : (r : Result (Unit {0}) Stop) (name : Option (List ℕ)) (flawed : Bool) (bytes : List ℕ) (b h i : Option (List ℕ)) (s s' : SessionState) (m n : List ℕ) (status : ℕ) → status ≡ status_of r flawed → Played r (Some bytes) b s s' h i m n
     → (status ≤ 1) ⊎ (status ≡ 6) → HasBegun (length (cells_read (Some name) bytes)) m n
-begun_of_bytes (Ok done) name refused bytes b h i s s' m n status is played one = begun_all name bytes b h i s s' m n played
-begun_of_bytes (Err ReadFault) name refused bytes b h i s s' m n status is played one = absurd (neither 3 status is (omega arith) (omega arith) one)
-begun_of_bytes (Err WriteFault) name refused bytes b h i s s' m n status is played one = absurd (neither 4 status is (omega arith) (omega arith) one)
-begun_of_bytes (Err OutOfMemory) name refused bytes b h i s s' m n status is played one = absurd (neither 5 status is (omega arith) (omega arith) one)
-begun_of_bytes (Err TooLong) name refused bytes b h i s s' m n status is played one = begun_first name bytes b h i s s' m n played
+begun_of_bytes (Ok done) name flawed bytes b h i s s' m n status is played one = begun_all name bytes b h i s s' m n played
+begun_of_bytes (Err ReadFault) name flawed bytes b h i s s' m n status is played one = absurd (neither 3 status is (omega arith) (omega arith) one)
+begun_of_bytes (Err WriteFault) name flawed bytes b h i s s' m n status is played one = absurd (neither 4 status is (omega arith) (omega arith) one)
+begun_of_bytes (Err OutOfMemory) name flawed bytes b h i s s' m n status is played one = absurd (neither 5 status is (omega arith) (omega arith) one)
+begun_of_bytes (Err TooLong) name flawed bytes b h i s s' m n status is played one = begun_first name bytes b h i s s' m n played
 
-pub played_begun : (r : Result (Unit {0}) Stop) (asked : Option (Option (List ℕ))) (name : Option (List ℕ)) (refused : Bool) (a b h i : Option (List ℕ)) (s s' : SessionState) (m n : List ℕ) (status : ℕ) → Some name ≡ asked → status ≡ status_of r refused
+pub played_begun : (r : Result (Unit {0}) Stop) (asked : Option (Option (List ℕ))) (name : Option (List ℕ)) (flawed : Bool) (a b h i : Option (List ℕ)) (s s' : SessionState) (m n : List ℕ) (status : ℕ) → Some name ≡ asked → status ≡ status_of r flawed
     → Played r a b s s' h i m n → (status ≤ 1) ⊎ (status ≡ 6) → IfSome a (λ bytes. HasBegun (length (cells_read asked bytes)) m n)
-played_begun r asked name refused None b h i s s' m n status read is played one = tt
-played_begun r asked name refused (Some bytes) b h i s s' m n status read is played one =
-    subst (λ (w : Option (Option (List ℕ))). HasBegun (length (cells_read w bytes)) m n) read (begun_of_bytes r name refused bytes b h i s s' m n status is played one)
+played_begun r asked name flawed None b h i s s' m n status read is played one = tt
+played_begun r asked name flawed (Some bytes) b h i s s' m n status read is played one =
+    subst (λ (w : Option (Option (List ℕ))). HasBegun (length (cells_read w bytes)) m n) read (begun_of_bytes r name flawed bytes b h i s s' m n status is played one)
 
 stopped_kept : (stop : Stop) (a b h i : Option (List ℕ)) (s s' : SessionState) (m n : List ℕ) → StopsShort stop a b s s' h i m n → (k : ℕ) × HasBegun k m n
 stopped_kept stop a b h i s s' m n x =
@@ -178,35 +190,35 @@ played_few (Err TooLong) a b h i s s' m n played = record { bytes = played.bytes
 pub none_taken : (a : Option (List ℕ)) → HasTakenFew a a
 none_taken a = record { bytes = []; taken = Consumes-nil a; few = omega arith }
 
-pub played_too_long : (r : Result (Unit {0}) Stop) (refused : Bool) (a b h i : Option (List ℕ)) (s s' : SessionState) (m n : List ℕ) (status : ℕ) → status ≡ status_of r refused → Played r a b s s' h i m n → status ≡ 6 → HasTaken (input_limit + 1) a b
+pub played_too_long : (r : Result (Unit {0}) Stop) (flawed : Bool) (a b h i : Option (List ℕ)) (s s' : SessionState) (m n : List ℕ) (status : ℕ) → status ≡ status_of r flawed → Played r a b s s' h i m n → status ≡ 6 → HasTaken (input_limit + 1) a b
 played_too_long (Ok done) true a b h i s s' m n status is played six = absurd (omega arith)
 played_too_long (Ok done) false a b h i s s' m n status is played six = absurd (omega arith)
-played_too_long (Err ReadFault) refused a b h i s s' m n status is played six = absurd (omega arith)
-played_too_long (Err WriteFault) refused a b h i s s' m n status is played six = absurd (omega arith)
-played_too_long (Err OutOfMemory) refused a b h i s s' m n status is played six = absurd (omega arith)
-played_too_long (Err TooLong) refused a b h i s s' m n status is played six = record { bytes = played.bytes; taken = played.taken; many = played.many }
+played_too_long (Err ReadFault) flawed a b h i s s' m n status is played six = absurd (omega arith)
+played_too_long (Err WriteFault) flawed a b h i s s' m n status is played six = absurd (omega arith)
+played_too_long (Err OutOfMemory) flawed a b h i s s' m n status is played six = absurd (omega arith)
+played_too_long (Err TooLong) flawed a b h i s s' m n status is played six = record { bytes = played.bytes; taken = played.taken; many = played.many }
 
-pub too_long_played : (r : Result (Unit {0}) Stop) (refused : Bool) (a b h i : Option (List ℕ)) (s s' : SessionState) (m n : List ℕ) (x x' y y' status : ℕ) → status ≡ status_of r refused → Played r a b s s' h i m n → IsBlamed r x x' y y' → IsSome a
+pub too_long_played : (r : Result (Unit {0}) Stop) (flawed : Bool) (a b h i : Option (List ℕ)) (s s' : SessionState) (m n : List ℕ) (x x' y y' status : ℕ) → status ≡ status_of r flawed → Played r a b s s' h i m n → IsBlamed r x x' y y' → IsSome a
     → HasTaken (input_limit + 1) a b → IsFaultless y y' → (status ≡ 6) ⊎ (status ≡ 5)
-too_long_played (Ok done) refused a b h i s s' m n x x' y y' status is played blamed tells taken faultless = absurd (omega (arith, taken_same a b played.bytes taken.bytes tells played.taken taken.taken, played.few, taken.many))
-too_long_played (Err ReadFault) refused a b h i s s' m n x x' y y' status is played blamed tells taken faultless = absurd (omega (arith, taken_same a b played.bytes taken.bytes tells played.taken taken.taken, played.few, taken.many))
-too_long_played (Err WriteFault) refused a b h i s s' m n x x' y y' status is played blamed tells taken faultless = absurd (no_fault y y' faultless blamed.1)
-too_long_played (Err OutOfMemory) refused a b h i s s' m n x x' y y' status is played blamed tells taken faultless = inr is
-too_long_played (Err TooLong) refused a b h i s s' m n x x' y y' status is played blamed tells taken faultless = inl is
+too_long_played (Ok done) flawed a b h i s s' m n x x' y y' status is played blamed tells taken faultless = absurd (omega (arith, taken_same a b played.bytes taken.bytes tells played.taken taken.taken, played.few, taken.many))
+too_long_played (Err ReadFault) flawed a b h i s s' m n x x' y y' status is played blamed tells taken faultless = absurd (omega (arith, taken_same a b played.bytes taken.bytes tells played.taken taken.taken, played.few, taken.many))
+too_long_played (Err WriteFault) flawed a b h i s s' m n x x' y y' status is played blamed tells taken faultless = absurd (no_fault y y' faultless blamed.1)
+too_long_played (Err OutOfMemory) flawed a b h i s s' m n x x' y y' status is played blamed tells taken faultless = inr is
+too_long_played (Err TooLong) flawed a b h i s s' m n x x' y y' status is played blamed tells taken faultless = inl is
 
 -- a source that is read to its end gave no more bytes than are read
 few_taken : (a b : Option (List ℕ)) (xs : List ℕ) → IsSome a → IsReadToEnd a b → Consumes a b xs → length xs ≤ input_limit
 few_taken None b xs tells read took = cc
 few_taken (Some bytes) b xs tells read took = subst (λ (l : List ℕ). length l ≤ input_limit) (sym (taken_all bytes xs b took read.at_end)) read.few
 
-pub read_to_end_played : (r : Result (Unit {0}) Stop) (refused : Bool) (a b h i : Option (List ℕ)) (s s' : SessionState) (m n : List ℕ) (x x' y y' status : ℕ) → status ≡ status_of r refused → Played r a b s s' h i m n → IsBlamed r x x' y y' → IsSome a
+pub read_to_end_played : (r : Result (Unit {0}) Stop) (flawed : Bool) (a b h i : Option (List ℕ)) (s s' : SessionState) (m n : List ℕ) (x x' y y' status : ℕ) → status ≡ status_of r flawed → Played r a b s s' h i m n → IsBlamed r x x' y y' → IsSome a
     → IsReadToEnd a b → IsFaultless x x' → IsFaultless y y' → (status ≤ 1) ⊎ (status ≡ 5)
 read_to_end_played (Ok done) true a b h i s s' m n x x' y y' status is played blamed tells read faultless_source faultless_out = inl (omega arith)
 read_to_end_played (Ok done) false a b h i s s' m n x x' y y' status is played blamed tells read faultless_source faultless_out = inl (omega arith)
-read_to_end_played (Err ReadFault) refused a b h i s s' m n x x' y y' status is played blamed tells read faultless_source faultless_out = absurd (no_fault x x' faultless_source blamed.0)
-read_to_end_played (Err WriteFault) refused a b h i s s' m n x x' y y' status is played blamed tells read faultless_source faultless_out = absurd (no_fault y y' faultless_out blamed.1)
-read_to_end_played (Err OutOfMemory) refused a b h i s s' m n x x' y y' status is played blamed tells read faultless_source faultless_out = inr is
-read_to_end_played (Err TooLong) refused a b h i s s' m n x x' y y' status is played blamed tells read faultless_source faultless_out = absurd (omega (arith, few_taken a b played.bytes tells read played.taken, played.many))
+read_to_end_played (Err ReadFault) flawed a b h i s s' m n x x' y y' status is played blamed tells read faultless_source faultless_out = absurd (no_fault x x' faultless_source blamed.0)
+read_to_end_played (Err WriteFault) flawed a b h i s s' m n x x' y y' status is played blamed tells read faultless_source faultless_out = absurd (no_fault y y' faultless_out blamed.1)
+read_to_end_played (Err OutOfMemory) flawed a b h i s s' m n x x' y y' status is played blamed tells read faultless_source faultless_out = inr is
+read_to_end_played (Err TooLong) flawed a b h i s s' m n x x' y y' status is played blamed tells read faultless_source faultless_out = absurd (omega (arith, few_taken a b played.bytes tells read played.taken, played.many))
 
 -- another name than the served one was asked for
 pub strayed : (asked : Option (Option (List ℕ))) (name served : Option (List ℕ)) (status hits hits' strays strays' : ℕ) → Some name ≡ asked → (name ≢ served → (hits' ≡ hits) × (strays' ≡ next_count strays))
@@ -214,18 +226,18 @@ pub strayed : (asked : Option (Option (List ℕ))) (name served : Option (List �
 strayed asked name served status hits hits' strays strays' read counts = subst (λ (w : Option (Option (List ℕ))). IfSome w (λ n. n ≢ served → (hits' ≡ hits) × HasRisen status strays strays')) read
     (λ other. let (stay, rise) = counts other in (stay, record { rose = λ _. rise; or_stayed = inl rise }))
 
-complete_of_bytes : (r : Result (Unit {0}) Stop) (refused : Bool) (bytes : List ℕ) (b h i : Option (List ℕ)) (s s' : SessionState) (m n : List ℕ) (x x' y y' status : ℕ) → status ≡ status_of r refused → Played r (Some bytes) b s s' h i m n → IsBlamed r x x' y y'
+complete_of_bytes : (r : Result (Unit {0}) Stop) (flawed : Bool) (bytes : List ℕ) (b h i : Option (List ℕ)) (s s' : SessionState) (m n : List ℕ) (x x' y y' status : ℕ) → status ≡ status_of r flawed → Played r (Some bytes) b s s' h i m n → IsBlamed r x x' y y'
     → length bytes ≤ input_limit → ¬ Rose x x' → ¬ Rose y y' → (status ≤ 1) ⊎ (status ≡ 5)
 complete_of_bytes (Ok done) true bytes b h i s s' m n x x' y y' status is played blamed few no_read_fault no_write_fault = inl (omega arith)
 complete_of_bytes (Ok done) false bytes b h i s s' m n x x' y y' status is played blamed few no_read_fault no_write_fault = inl (omega arith)
-complete_of_bytes (Err ReadFault) refused bytes b h i s s' m n x x' y y' status is played blamed few no_read_fault no_write_fault = absurd (no_read_fault blamed.0)
-complete_of_bytes (Err WriteFault) refused bytes b h i s s' m n x x' y y' status is played blamed few no_read_fault no_write_fault = absurd (no_write_fault blamed.1)
-complete_of_bytes (Err OutOfMemory) refused bytes b h i s s' m n x x' y y' status is played blamed few no_read_fault no_write_fault = inr is
-complete_of_bytes (Err TooLong) refused bytes b h i s s' m n x x' y y' status is played blamed few no_read_fault no_write_fault =
+complete_of_bytes (Err ReadFault) flawed bytes b h i s s' m n x x' y y' status is played blamed few no_read_fault no_write_fault = absurd (no_read_fault blamed.0)
+complete_of_bytes (Err WriteFault) flawed bytes b h i s s' m n x x' y y' status is played blamed few no_read_fault no_write_fault = absurd (no_write_fault blamed.1)
+complete_of_bytes (Err OutOfMemory) flawed bytes b h i s s' m n x x' y y' status is played blamed few no_read_fault no_write_fault = inr is
+complete_of_bytes (Err TooLong) flawed bytes b h i s s' m n x x' y y' status is played blamed few no_read_fault no_write_fault =
     absurd (omega (arith, (taken_front bytes played.bytes b input_limit played.taken (omega (arith, played.many))).0, few))
 
 -- a source of no more bytes than are read, and no fault
-pub complete_played : (r : Result (Unit {0}) Stop) (refused : Bool) (a b h i : Option (List ℕ)) (s s' : SessionState) (m n : List ℕ) (x x' y y' status : ℕ) → status ≡ status_of r refused → Played r a b s s' h i m n → IsBlamed r x x' y y'
+pub complete_played : (r : Result (Unit {0}) Stop) (flawed : Bool) (a b h i : Option (List ℕ)) (s s' : SessionState) (m n : List ℕ) (x x' y y' status : ℕ) → status ≡ status_of r flawed → Played r a b s s' h i m n → IsBlamed r x x' y y'
     → IfSome a (λ bytes. length bytes ≤ input_limit → ¬ Rose x x' → ¬ Rose y y' → (status ≤ 1) ⊎ (status ≡ 5))
-complete_played r refused None b h i s s' m n x x' y y' status is played blamed = tt
-complete_played r refused (Some bytes) b h i s s' m n x x' y y' status is played blamed = complete_of_bytes r refused bytes b h i s s' m n x x' y y' status is played blamed
+complete_played r flawed None b h i s s' m n x x' y y' status is played blamed = tt
+complete_played r flawed (Some bytes) b h i s s' m n x x' y y' status is played blamed = complete_of_bytes r flawed bytes b h i s s' m n x x' y y' status is played blamed

@@ -1,7 +1,13 @@
-pub mod Adding
+pub mod Answered
 pub mod Answering
+pub mod Bare
 pub mod Broken
+pub mod ComputedLines
 pub mod Ending
+pub mod Lines
+pub mod Numbers
 pub mod Pieces
-pub mod Streams
 pub mod Stopping
+pub mod Streams
+pub mod Tasks
+pub mod Values

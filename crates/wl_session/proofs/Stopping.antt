@@ -5,22 +5,25 @@ use Rattle.std.proofs.KnownBytes.{Consumes-trans}
 use Rattle.std.proofs.lemmas.List.{length-take-le, take_all}
 use Rattle.wl_scan.specs.Cells.{Cutting, CellText, PlacedCell, cut, ended, remainder, start, cells}
 use Rattle.wl_scan.proofs.Pieces.{ended_append}
-use Rattle.wl_session.specs.Answers.{SessionState, IsAnswer}
+use Rattle.wl_session.specs.Answers.{IsAnswer}
+use Rattle.wl_session.specs.Line.{SessionState}
+use Rattle.wl_session.specs.Counting.{HasBegun}
 use Rattle.wl_session.specs.Pieces.{IsWrittenInPart}
 use Rattle.wl_session.specs.Stopping.{Played, HasStopped, StopsShort, within, at_end}
 use Rattle.wl_session.specs.Streaming.{HasAnswered, HasFed}
 use Rattle.wl_session.specs.Transcript.{input_limit, texts}
+use Rattle.wl_session.specs.declared.session.LineEnd.{LineEnd}
 use Rattle.wl_session.specs.declared.streaming.Stop.{Stop}
 use Rattle.wl_session.specs.declared.streaming.Stop.TheVariants.{ReadFault, WriteFault, OutOfMemory, TooLong}
-use Rattle.wl_session.proofs.Answering.{begun_one, nothing_answered, answered_on, texts_append}
+use Rattle.wl_session.proofs.Answering.{nothing_answered, answered_on, texts_append}
 use Rattle.wl_session.proofs.Streams.{HasStreamed, front, streamed_all}
 
 take_few : (n : ℕ) (l : List ℕ) → length l ≤ n → take n l ≡ l
 take_few n l few = take_all n l few
 
 -- one cell
-pub stopped_writing : (s s' : SessionState) (h h' : Option (List ℕ)) (m m' : List ℕ) (c d : CellText) (bytes piece : List ℕ) → IsAnswer c s s' bytes → c ≡ d → piece ≡ bytes → IsWrittenInPart piece h h' → m' ≡ m ++ 0 ∷ [] → HasStopped WriteFault s s' h h' m m' (d ∷ [])
-stopped_writing s s' h h' m m' c d bytes piece one same is part marks = record {
+pub stopped_writing : (s s' : SessionState) (h h' : Option (List ℕ)) (m m' : List ℕ) (c d : CellText) (end : LineEnd) (bytes piece : List ℕ) → IsAnswer c s s' end bytes → c ≡ d → piece ≡ bytes → IsWrittenInPart piece h h' → HasBegun 1 m m' → HasStopped WriteFault s s' h h' m m' (d ∷ [])
+stopped_writing s s' h h' m m' c d end bytes piece one same is part marks = record {
   before = [];
   last = d;
   behind = [];
@@ -29,12 +32,12 @@ stopped_writing s s' h h' m m' c d bytes piece one same is part marks = record {
   written = h;
   before_last = m;
   answered = nothing_answered s s h h m m refl refl refl;
-  breaks = record { bytes = bytes; answer = subst (λ (x : CellText). IsAnswer x s s' bytes) same one; part = subst (λ (l : List ℕ). IsWrittenInPart l h h') is part };
-  begun = begun_one m m' marks;
+  breaks = record { end = end; bytes = bytes; answer = subst (λ (x : CellText). IsAnswer x s s' end bytes) same one; part = subst (λ (l : List ℕ). IsWrittenInPart l h h') is part };
+  begun = marks;
 }
 
-pub stopped_wanting : (s s' : SessionState) (h h' : Option (List ℕ)) (m m' : List ℕ) (d : CellText) → s'.history ≡ s.history → h' ≡ h → m' ≡ m ++ 0 ∷ [] → HasStopped OutOfMemory s s' h h' m m' (d ∷ [])
-stopped_wanting s s' h h' m m' d same holds marks = record {
+pub stopped_wanting : (s s' : SessionState) (h h' : Option (List ℕ)) (m m' : List ℕ) (d : CellText) → s'.state.world.history ≡ s.state.world.history → s'.counts ≡ s.counts → h' ≡ h → HasBegun 1 m m' → HasStopped OutOfMemory s s' h h' m m' (d ∷ [])
+stopped_wanting s s' h h' m m' d same counted holds marks = record {
   before = [];
   last = d;
   behind = [];
@@ -43,8 +46,8 @@ stopped_wanting s s' h h' m m' d same holds marks = record {
   written = h;
   before_last = m;
   answered = nothing_answered s s h h m m refl refl refl;
-  breaks = record { history = same; unwritten = holds };
-  begun = begun_one m m' marks;
+  breaks = record { history = same; counts = counted; unwritten = holds };
+  begun = marks;
 }
 
 -- further cells before it

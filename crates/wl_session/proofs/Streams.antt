@@ -5,7 +5,7 @@ use Rattle.std.proofs.KnownBytes.{Consumes-nil, Consumes-trans, Consumes-kept}
 use Rattle.std.proofs.lemmas.List.{length-take-le, take-append-le, take-append-drop}
 use Rattle.std.proofs.Math.Seq.{take-append-add}
 use Rattle.wl_scan.proofs.Pieces.{taken_cut}
-use Rattle.wl_session.specs.Answers.{SessionState}
+use Rattle.wl_session.specs.Line.{SessionState}
 use Rattle.wl_scan.specs.Cells.{Cutting, ended, remainder, start}
 use Rattle.wl_session.specs.Streaming.{HasAnswered, HasFed, PlayedToEnd, PlayedToFault, PlayedToLimit}
 use Rattle.wl_session.specs.Transcript.{input_limit, texts}

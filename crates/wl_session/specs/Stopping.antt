@@ -2,23 +2,27 @@
 use Rattle.std.specs.Prelude.{◌≡◌, ◌≤◌, ◌+◌, ◌++◌, ◌⊎◌, ℕ, List, ◌∷◌, length, take, Option, Result, Ok, Err}
 use Rattle.std.specs.Io.KnownBytes.{Consumes, IsAtEnd}
 use Rattle.wl_scan.specs.Cells.{CellText, ended, start, cells}
-use Rattle.wl_session.specs.Answers.{SessionState, IsAnswer}
+use Rattle.wl_session.specs.Answers.{IsAnswer}
+use Rattle.wl_session.specs.Line.{SessionState}
 use Rattle.wl_session.specs.Counting.{HasBegun}
 use Rattle.wl_session.specs.Pieces.{IsWrittenInPart}
 use Rattle.wl_session.specs.Streaming.{HasAnswered, PlayedToEnd, PlayedToFault, PlayedToLimit}
 use Rattle.wl_session.specs.Transcript.{input_limit, texts}
+use Rattle.wl_session.specs.declared.session.LineEnd.{LineEnd}
 use Rattle.wl_session.specs.declared.streaming.Stop.{Stop}
 use Rattle.wl_session.specs.declared.streaming.Stop.TheVariants.{ReadFault, WriteFault, OutOfMemory, TooLong}
 
 -- a cell was answered, and a front of its bytes was written
 pub record IsAnsweredInPart (cell : CellText) (s s' : SessionState) (held held' : Option (List ℕ)) : Type 0 where
+  pub end : LineEnd
   pub bytes : List ℕ
-  pub answer : IsAnswer cell s s' bytes
+  pub answer : IsAnswer cell s s' end bytes
   pub part : IsWrittenInPart bytes held held'
 
--- a cell wasn't answered
+-- a cell wasn't answered: the history and the counts are as they were
 pub record IsUnanswered (s s' : SessionState) (held held' : Option (List ℕ)) : Type 0 where
-  pub history : s'.history ≡ s.history
+  pub history : s'.state.world.history ≡ s.state.world.history
+  pub counts : s'.counts ≡ s.counts
   pub unwritten : held' ≡ held
 
 -- how a cell was left by what stopped the run

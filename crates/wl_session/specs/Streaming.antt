@@ -2,7 +2,8 @@
 use Rattle.std.specs.Prelude.{◌≡◌, ◌≤◌, ◌+◌, ℕ, List, length, take, Option, Result, Ok, Err}
 use Rattle.std.specs.Io.KnownBytes.{Appends, Consumes, IsAtEnd}
 use Rattle.wl_ports.specs.Causes.{Rose}
-use Rattle.wl_session.specs.Answers.{SessionState, state_after, answers}
+use Rattle.wl_session.specs.Answers.{state_after, answers}
+use Rattle.wl_session.specs.Line.{SessionState}
 use Rattle.wl_session.specs.Counting.{HasBegun}
 use Rattle.wl_session.specs.Reading.{Reading, AllRead}
 use Rattle.wl_scan.specs.Cells.{Cutting, CellText, cut, ended, start, cells}

@@ -1,5 +1,6 @@
 //! Laws over the definitions of a transcript, each proved as the contract of a function that does nothing.
-ghost use Rattle.wl_session.specs.Laws.{OneTranscript, WorkedRows};
+ghost use Rattle.wl_session.specs.Laws.{OneTranscript};
+ghost use Rattle.wl_session.specs.WorkedLines.{WorkedLines};
 
 use wl_syntax::laws::one_answer;
 
@@ -10,7 +11,7 @@ pub fn one_transcript()
     one_answer();
 }
 
-/// What is written for a few readings of cells.
-pub fn worked_rows()
-    ensures { WorkedRows }
+/// What is written for the cells of a few sessions.
+pub fn worked_lines()
+    ensures { WorkedLines }
 {}

@@ -10,7 +10,6 @@ ghost use Rattle.wl_session.specs.Stopping.{HasStopped, Played};
 ghost use Rattle.wl_session.specs.Streaming.{HasAnswered, HasFed, OutIsBlamed, IsBlamed};
 
 use crate::session::Session;
-use std::alloc::Global;
 use wl_ports::{Failed, Ledger, Memory, Sink, Source, Work};
 use wl_scan::Cells;
 
@@ -75,7 +74,6 @@ pub(crate) fn read_piece<S: Source>(
 
 /// Answers the cell that was just told of, and writes its bytes.
 fn answer_cell<K: Sink, L: Ledger>(
-    alloc: Global,
     cells: &Cells,
     session: &mut Session,
     out: &mut K,
@@ -89,8 +87,8 @@ fn answer_cell<K: Sink, L: Ledger>(
         (K.held out.old) (K.held out.new) work.old work.new (text_of cells.now ∷ [])) }
 {
     work.mark();
-    match session.answer(alloc, cells.cell()) {
-        Ok(()) => {}
+    match session.line(cells.cell(), work) {
+        Ok(_) => {}
         Err(Memory) => return Err(Stop::OutOfMemory),
     }
     match write_whole(out, session.pending()) {
@@ -101,7 +99,6 @@ fn answer_cell<K: Sink, L: Ledger>(
 
 /// Cuts a piece, and answers each cell that ends within it.
 fn feed<K: Sink, L: Ledger>(
-    alloc: Global,
     cells: &mut Cells,
     session: &mut Session,
     piece: &[u8],
@@ -120,7 +117,7 @@ fn feed<K: Sink, L: Ledger>(
         let fed = cells.feed(&piece[at..]);
         at += fed.used;
         if fed.cell {
-            answer_cell(alloc, cells, session, out, work)?;
+            answer_cell(cells, session, out, work)?;
         }
     }
     Ok(())
@@ -128,7 +125,6 @@ fn feed<K: Sink, L: Ledger>(
 
 /// Ends the text, and answers its rest where that is a cell.
 fn answer_rest<K: Sink, L: Ledger>(
-    alloc: Global,
     cells: &mut Cells,
     session: &mut Session,
     out: &mut K,
@@ -143,12 +139,11 @@ fn answer_rest<K: Sink, L: Ledger>(
     if !cells.finish() {
         return Ok(());
     }
-    answer_cell(alloc, cells, session, out, work)
+    answer_cell(cells, session, out, work)
 }
 
 /// Reads the source to its end, and answers each cell before more is read.
 pub(crate) fn stream<S: Source, K: Sink, L: Ledger>(
-    alloc: Global,
     cells: &mut Cells,
     session: &mut Session,
     source: &mut S,
@@ -166,15 +161,15 @@ pub(crate) fn stream<S: Source, K: Sink, L: Ledger>(
     let mut room = INPUT_LIMIT + 1;
     'pieces: loop {
         let count = match read_piece(source, &mut piece, room) {
-            Ok(0) => return answer_rest(alloc, cells, session, out, work),
+            Ok(0) => return answer_rest(cells, session, out, work),
             Ok(count) => count,
             Err(Failed) => return Err(Stop::ReadFault),
         };
         if count as u64 == room {
-            feed(alloc, cells, session, &piece[..count - 1], out, work)?;
+            feed(cells, session, &piece[..count - 1], out, work)?;
             return Err(Stop::TooLong);
         }
-        feed(alloc, cells, session, &piece[..count], out, work)?;
+        feed(cells, session, &piece[..count], out, work)?;
         room -= count as u64;
     }
 }

@@ -10,6 +10,7 @@ ghost use Rattle.wl_session.specs.Streaming.{IsBlamed};
 ghost use Rattle.wl_session.specs.Transcript.{line_for, input_limit, cells_read};
 ghost use Rattle.wl_session.specs.Words.{asked, words_of};
 
+use crate::options::run_options;
 use crate::session::Session;
 use crate::streaming::{Stop, stream, write_whole};
 use crate::words::asked;
@@ -27,7 +28,6 @@ pub struct Ended {
 
 /// Opens the source, answers its cells, and flushes what was written.
 fn play<S: Source, K: Sink, L: Ledger>(
-    alloc: Global,
     name: Option<&str>,
     cells: &mut Cells,
     session: &mut Session,
@@ -49,7 +49,7 @@ fn play<S: Source, K: Sink, L: Ledger>(
         Ok(()) => {}
         Err(Failed) => return Err(Stop::ReadFault),
     }
-    stream(alloc, cells, session, source, out, work)?;
+    stream(cells, session, source, out, work)?;
     match out.flush() {
         Ok(()) => Ok(()),
         Err(Failed) => Err(Stop::WriteFault),
@@ -79,10 +79,10 @@ fn report<E: Sink>(err: &mut E, status: u8)
 
 /// The status of a run whose words were read.
 fn status_of(played: &Result<(), Stop>, session: &Session) -> u8
-    ensures { result ≡ status_of played.now session.now.refused }
+    ensures { result ≡ status_of played.now session.now.flawed }
 {
     match played {
-        Ok(()) => { if session.is_refused() { 1 } else { 0 } }
+        Ok(()) => { if session.is_flawed() { 1 } else { 0 } }
         Err(Stop::ReadFault) => 3,
         Err(Stop::WriteFault) => 4,
         Err(Stop::OutOfMemory) => 5,
@@ -165,7 +165,13 @@ pub fn run<S: Source, K: Sink, E: Sink, L: Ledger>(
             session: None,
         };
     };
-    let mut session = Session::new(alloc);
+    let Ok(mut session) = Session::new(alloc, run_options()) else {
+        report(err, 5);
+        return Ended {
+            status: 5,
+            session: None,
+        };
+    };
     let Ok(mut cells) = Cells::new(alloc) else {
         report(err, 5);
         return Ended {
@@ -173,7 +179,7 @@ pub fn run<S: Source, K: Sink, E: Sink, L: Ledger>(
             session: Some(session),
         };
     };
-    let played = play(alloc, name, &mut cells, &mut session, source, out, work);
+    let played = play(name, &mut cells, &mut session, source, out, work);
     let status = status_of(&played, &session);
     report(err, status);
     Ended {

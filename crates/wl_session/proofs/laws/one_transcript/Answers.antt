@@ -1,28 +1,32 @@
-use Rattle.std.proofs.Common.{◌≡◌, ℕ, List, [], ◌∷◌, refl, ap, sym, ◌∙◌}
+use Rattle.std.proofs.Common.{◌≡◌, ◌≢◌, ℕ, List, [], ◌∷◌, refl, ap, sym, ◌∙◌}
 use Rattle.wl_scan.specs.Cells.{CellText, whole, too_long}
 use Rattle.wl_expr.specs.Tree.{Tree}
 use Rattle.wl_syntax.specs.Laws.{OneTree, NotRefused, OneCause, OneAnswer}
 use Rattle.wl_syntax.specs.Lower.{lower}
 use Rattle.wl_syntax.specs.Reads.{IsReadAs}
-use Rattle.wl_session.specs.Reading.{Reading, refused, read, IsReading, AllRead, IsRefusedWith}
-use Rattle.wl_session.specs.Refusal.{syntax_line}
+use Rattle.wl_syntax.specs.Reads.{Refused}
+use Rattle.wl_syntax.specs.declared.fault.SyntaxFault.{SyntaxFault}
+use Rattle.wl_syntax.specs.declared.fault.SyntaxFault.TheVariants.{Memory}
+use Rattle.wl_session.specs.Reading.{Reading, refused, read, IsReading, AllRead}
+use Rattle.wl_session.specs.declared.fault.LineFault.TheVariants.{TooLong, Syntax}
 use Rattle.wl_session.specs.Transcript.{cells_read, transcript}
 use Rattle.wl_session.proofs.laws.one_transcript.Goals as goal
-
-lines_same : (bytes line other : List ℕ) → OneCause → IsRefusedWith bytes line → IsRefusedWith bytes other → line ≡ other
-lines_same bytes line other law a b = a.line_of ∙ ap syntax_line (law bytes a.fault b.fault a.cause b.cause a.is_own b.is_own) ∙ sym b.line_of
 
 trees_same : (bytes : List ℕ) (e f : Tree) → OneTree → IsReadAs bytes e → IsReadAs bytes f → e ≡ f
 trees_same bytes e f law a b = a.lowered ∙ ap lower (law bytes a.tree b.tree a.right b.right) ∙ sym b.lowered
 
-not_both : (bytes : List ℕ) (e : Tree) (line : List ℕ) → NotRefused → IsReadAs bytes e → IsRefusedWith bytes line → ⊥
-not_both bytes e line law a b = b.is_own (law bytes a.tree a.right a.shallow b.fault b.cause)
+not_both : (bytes : List ℕ) (e : Tree) (f : SyntaxFault) → NotRefused → IsReadAs bytes e → (f ≢ Memory) × Refused bytes f → ⊥
+not_both bytes e f law a b = b.0 (law bytes a.tree a.right a.shallow f b.1)
 
 read_once : (c : CellText) (r q : Reading) → OneAnswer → IsReading c r → IsReading c q → r ≡ q
 read_once (whole bytes) (read e) (read f) law a b = ap (λ t. read t) (trees_same bytes e f law.0 a b)
-read_once (whole bytes) (read e) (refused line) law a b = absurd (not_both bytes e line law.1 a b)
-read_once (whole bytes) (refused line) (read e) law a b = absurd (not_both bytes e line law.1 b a)
-read_once (whole bytes) (refused line) (refused other) law a b = ap (λ l. refused l) (lines_same bytes line other law.2 a b)
+read_once (whole bytes) (read e) (refused (Syntax f)) law a b = absurd (not_both bytes e f law.1 a b)
+read_once (whole bytes) (read e) (refused TooLong) law a b = absurd b
+read_once (whole bytes) (refused (Syntax f)) (read e) law a b = absurd (not_both bytes e f law.1 b a)
+read_once (whole bytes) (refused TooLong) (read e) law a b = absurd a
+read_once (whole bytes) (refused (Syntax f)) (refused (Syntax g)) law a b = ap (λ h. refused (Syntax h)) (law.2 bytes f g a.1 b.1 a.0 b.0)
+read_once (whole bytes) (refused (Syntax f)) (refused TooLong) law a b = absurd b
+read_once (whole bytes) (refused TooLong) (refused q) law a b = absurd a
 read_once too_long r q law a b = a ∙ sym b
 
 all_read_once : (cs : List CellText) (rs qs : List Reading) → OneAnswer → AllRead cs rs → AllRead cs qs → rs ≡ qs

@@ -1,17 +1,17 @@
-use Rattle.std.proofs.Common.{rules, ◌≡◌, ◌+◌, ◌∷◌, ◌++◌, [], None, Some, Ok, Err, true, false, option_map, length, drop, refl, sym, ap, ◌∙◌, subst, subst₂, arith, true≢false, ◌^◌, ◌&&◌, ℕ, ◌<◌, not, IfOk, List, map, le_refl}
-use Rattle.std.specs.Prelude.{codes}
+use Rattle.std.proofs.Common.{rules, Option, ◌≡◌, ◌+◌, ◌∷◌, ◌++◌, [], None, Some, Ok, Err, true, false, option_map, length, drop, refl, sym, ap, ◌∙◌, subst, subst₂, arith, true≢false, ◌^◌, ◌&&◌, ℕ, ◌<◌, not, IfOk, List, map, le_refl, take, ap₂, ◌||◌, is_some, ◌*◌, ◌-◌}
+use Rattle.std.specs.Prelude.{codes, IfSome, option_copied}
 use Rattle.std.proofs.lemmas.Result.{err_from_is_err_and}
 use Rattle.std.proofs.lemmas.List.{length-map, length-append}
 use Rattle.std.proofs.lemmas.List.Elements.{All-push}
 use Rattle.wl_expr.specs.Stamped.{Stamped, plain, from_list}
-use Rattle.wl_expr.specs.Tree.{IsWithinLimits, node, Tree}
-use Rattle.wl_expr.specs.Words.{applied}
+use Rattle.wl_expr.specs.Tree.{IsWithinLimits, node, Tree, depths, depth}
+use Rattle.wl_expr.specs.Words.{applied, list_of, fits, elements}
 use Rattle.wl_algebra.specs.Kinds as algebra
-use Rattle.wl_control.specs.Cursors.{stand}
+use Rattle.wl_control.specs.Cursors.{stand, HoldsFrom}
 use Rattle.wl_lists.specs.Kinds as lists
 use Rattle.wl_rules.specs.declared.rule.RuleKind.TheVariants.{Own}
 use Rattle.wl_shape.specs.Answers.{IsShaped}
-use Rattle.wl_shape.specs.Shape.{Shaped, shape, shaped_tree}
+use Rattle.wl_shape.specs.Shape.{Shaped, shape, shaped_tree, without_sequences}
 use Rattle.wl_shape.specs.declared.arrangement.Shaped.TheVariants as variant
 use Rattle.wl_eval.specs.Prog as prog
 use Rattle.wl_eval.specs.Prog.{done, ◌>>=◌}
@@ -21,42 +21,80 @@ use Rattle.wl_eval.specs.Match as matching
 use Rattle.wl_eval.specs.Turn as turn
 use Rattle.wl_eval.specs.Turn.{tried}
 use Rattle.wl_eval.specs.Parts.{sized_row}
-use Rattle.wl_eval.specs.Played.{Played, Plays, Ended, TurnsEnd, Honest, AllHonest, Makes, Inside, AtEvaluated, is_leaf, whole_turn, found_tree, tree as value, values, itself, built, turned, sealed, end_of, trees, Leads, Sound}
+use Rattle.wl_eval.specs.Played.{Played, Plays, Ended, TurnsEnd, Honest, AllHonest, Makes, Inside, AtEvaluated, is_leaf, whole_turn, found_tree, tree as value, values, itself, built, turned, sealed, end_of, trees, Leads, Sound, AllHonestRules, honest_tree, HonestMaybe}
 use Rattle.wl_eval.specs.declared.evaluator.Evaluator.{Evaluator}
 use Rattle.wl_eval.specs.declared.ends.End.TheVariants as end
 use Rattle.wl_eval.specs.declared.ends.Turned.TheVariants as made
 use Rattle.wl_eval.proofs.Playing.{plays_bind, plays_done, plays_done_is}
-use Rattle.wl_eval.proofs.Rows.{played_exit, played_bind, leads_exit, later, all_later, leads_played, rules_later}
-use Rattle.wl_eval.proofs.Values.{args_honest, head_honest, built_honest, plains_trees, none_evaluated, evaluated_push, evaluated_later, unless_held, unless_given}
+use Rattle.wl_eval.proofs.Rows.{played_exit, played_bind, leads_exit, later, all_later, leads_played, rules_later, option_later}
+use Rattle.wl_eval.proofs.Values.{args_honest, head_honest, built_honest, plains_trees, none_evaluated, evaluated_push, evaluated_later, unless_held, unless_given, passed_honest}
 use Rattle.wl_eval.proofs.Evaluating.{plays_leaf, leaf_inside, plays_too_deep, entered, plays_turns, end_closed, turns_depth, value_played, turns_stop, turns_final, turns_leaf, turns_next}
 use Rattle.wl_eval.proofs.Turning.{marked_sound, turns_limit}
-use Rattle.wl_eval.proofs.Tables.{row_algebra, row_lists, row_special, row_none, row_otherwise, none_mapped}
+use Rattle.wl_eval.proofs.Tables.{row_algebra, row_lists, row_special, row_none, row_otherwise, none_mapped, row_control}
 use Rattle.wl_eval.proofs.Notices.{algebra_notices, lists_notices}
 use Rattle.wl_eval.proofs.Answering.{algebra_answers, lists_answers, algebra_honest, lists_honest}
 use Rattle.wl_eval.proofs.Shapes.{stays_plays, HonestShaped, shaped_honest, shape_stops, shape_is, threaded_plays, uneven_plays}
-use Rattle.wl_eval.proofs.Rounds.{no_symbol, no_node, node_makes, node_is, or_found, or_next, or_plays, no_rules, head_values-is, tried_at, up_named, up_unnamed, up_over, up_values-held, up_values-tried, built_in-node, built_in-none, plays_no_built_in, evaluated-held, evaluated-each, evaluated-value, evaluated-kept, evaluated-over, trees_push, turned_played, final_is, final_honest, turn_symbol, leaf_turn, symbol_back, node_turned}
-use Rattle.std.specs.List.{All}
+use Rattle.wl_eval.proofs.Rounds.{no_symbol, no_node, node_makes, node_is, or_found, or_next, or_plays, head_values-is, tried_at, up_named, up_unnamed, up_over, up_values-held, up_values-tried, built_in-node, built_in-none, evaluated-held, evaluated-each, evaluated-value, evaluated-kept, evaluated-over, trees_push, turned_played, final_is, final_honest, turn_symbol, leaf_turn, symbol_back, node_turned}
 use Rattle.wl_match.specs.Left.{left, binding}
 use Rattle.wl_match.specs.Parts.{kept, whole}
-use Rattle.wl_match.specs.Pattern.{Ask, pattern}
-use Rattle.wl_match.specs.Shown.{Asks, AreFrom, IsTestFrom, tests_in, trail_in}
+use Rattle.wl_match.specs.Shown.{Asks, AreFrom, IsTestFrom, trail_in}
 use Rattle.wl_match.specs.Trials.{Trials}
 use Rattle.wl_rules.specs.StampedRules.{plain_rule}
 use Rattle.wl_shape.specs.Fill.{fill_binding}
-use Rattle.wl_eval.specs.Searching.{HonestView, found_by, next_binding, next_found, passes_within, refuses_within, tests_within, true_of_built}
-use Rattle.wl_eval.proofs.Bindings.{after_binding, after_tests, all_tests, if_so, or_more, passes_is, test_within, tests_is, tests_over, walk_is}
-use Rattle.wl_eval.proofs.Matches.{all_view_honest, asks_applies, asks_holds, asks_refuses, each_at, each_leads, each_over, exit, fill_on, filled_leads, filled_makes, filling_is, filling_leads, found_none, found_some, guard_on, guarded_leads, both_not, held, kept_honest, leads_in, leads_out, made_honest, match_found, match_over, matches_played, next_so, no_test, not_filled, not_held, not_so, one_makes, refuses_one, refuses_other, rule_played, sized_leads, test_found, tests_at, tests_begin, tests_end, trial_at, trial_leads, trial_over, unguarded, view_honest, walk_found, walk_over}
+use Rattle.wl_eval.specs.Searching.{next_binding, passes_within, refuses_within, tests_within}
+use Rattle.wl_eval.proofs.Bindings.{passes_is, walk_is}
+use Rattle.wl_eval.proofs.Matches.{all_view_honest, asks_applies, asks_holds, asks_refuses, each_at, each_leads, each_over, exit, filled_leads, filled_makes, filling_leads, found_none, found_some, guarded_leads, both_not, held, kept_honest, leads_in, leads_out, made_honest, match_found, match_over, matches_played, next_so, no_test, not_filled, not_held, not_so, one_makes, refuses_one, refuses_other, rule_played, sized_leads, test_found, tests_at, tests_begin, tests_end, trial_at, trial_leads, trial_over, unguarded, view_honest, walk_found, walk_over}
 use Rattle.wl_expr.specs.Tree as tree
 use Rattle.wl_expr.proofs.Small.{fits_decides}
 use Rattle.wl_eval.specs.MatchRows as match_rows
-use Rattle.wl_expr.specs.Words.{list_of}
-use Rattle.wl_eval.specs.Honest.{HonestOption}
-use Rattle.wl_eval.specs.Replacing.{found_trees, sifted}
-use Rattle.wl_eval.proofs.MatchRowParts.{any_at, any_none, args_depth, element_depth, listed_honest, node_honest, pair_honest, rule_honest, cases_at, cases_leads, cases_over, count_at, count_over, delete_atom, delete_node, elements_over, leads_to, nothing_more, one_more, pair_is, pair_row, pair_stays, part_at, part_is, part_leads, part_node, part_none, row_exit, row_truth, sifted_at, sifted_leads, sifted_over}
-use Rattle.wl_eval.proofs.RowParts.{row_at, row_gives, row_made}
-use Rattle.wl_expr.proofs.Small.{fits_decides}
-use Rattle.wl_eval.proofs.MatchRowParts.{head_depth}
-use Rattle.wl_eval.proofs.MatchRowParts.{row_count, delete_one, delete_many}
+use Rattle.wl_eval.specs.Replacing.{found_trees, AllHonestMaybe, each_of, part_of, replacing, replacing_each, seen_each, seen_replaced, seen_result, sifted}
+use Rattle.wl_eval.proofs.MatchRowParts.{any_at, any_none, args_depth, element_depth, listed_honest, node_honest, pair_honest, rule_honest, cases_at, cases_leads, cases_over, count_at, count_over, delete_atom, delete_node, elements_over, leads_to, nothing_more, one_more, pair_row, pair_stays, part_at, part_is, part_leads, part_node, part_none, row_exit, row_truth, sifted_at, sifted_leads, sifted_over, head_depth, row_count, delete_one, delete_many}
+use Rattle.wl_eval.proofs.RowParts.{row_at, row_gives, row_made, row_stays, made_is}
+use Rattle.wl_eval.proofs.ReplaceRowParts.{below_leads, each_next, each_over as parts_over, leaf_replaced, node_below, rebuilt_honest, rebuilt_is, replacing_is, result_replaced, step_stops, trial_next, became, each_honest, each_later, each_leads as parts_leads, none_is as trial_none, pass_ends, pass_goes as again_goes, pass_steps, pass_stops as again_stops, read_honest, read_is, replace_all_is, replace_is, replace_repeated_is, take_whole, replacing_stops, Passing, not_replaced, passing_begins, no_rules_read, repeated_gives, replace_all_stays, replace_repeated_stays, replace_stays, replaced_with}
+use Rattle.wl_control.specs.Asks.{Asks as Row}
+use Rattle.wl_control.specs.Places.{plain_ask}
+use Rattle.wl_control.specs.Stand.{IsAwaited, after, start, starts}
+use Rattle.wl_control.specs.Table as control
+use Rattle.wl_control.specs.declared.cursor.Cursor.{Cursor}
+use Rattle.wl_ports.specs.Name.{IsName}
+use Rattle.std.specs.Borrow.{Bor}
+use Rattle.wl_eval.specs.Control.{iterated, played}
+use Rattle.wl_eval.specs.Honest.{Grows, HonestIn, HonestOption}
+use Rattle.wl_eval.specs.Replies.{AreTaken, Comes, HonestAsk, Ready, caught_reply, set_aside, told_by}
+use Rattle.wl_eval.specs.declared.replies.Outcome.TheVariants as outcome
+use Rattle.wl_eval.specs.declared.replies.Reply.TheVariants as replies
+use Rattle.wl_eval.proofs.ControlParts.{asked_honest, catches_behind, catches_not, caught_goes, caught_played, caught_stops, comes_at, comes_exit, finishes_exit, holds_next, let_goes, match_goes, match_stops, none_taken, overflow_ends, pass_goes, pass_stops, proceeds_ends, proceeds_first, proceeds_on, protected_row, ready_at, ready_exit, ready_large, ready_same, ready_set, ready_stop, ready_then, refused_finishes, result_ends, row_begins, row_bounded, set_named, set_nothing, started, starts_row, unchanged_ends, unprotected_row, value_goes, value_stops}
+use Rattle.wl_eval.specs.LocalNames as local_names
+use Rattle.wl_eval.specs.LocalNames.{local_in, locals_in, held_in, scope_parts}
+use Rattle.wl_eval.specs.Scoping as scoping
+use Rattle.wl_eval.proofs.LocalParts.{locals_at, locals_push, no_locals, are_symbols}
+use Rattle.wl_eval.proofs.ScopingParts.{local_at, locals_later, locals_pushed}
+use Rattle.wl_eval.proofs.ScopeRowParts.{block_exit, block_on, block_played, block_row-on, given_plays, initial_none, initial_some, initials_is, initials_over, module_on, module_plays, module_row-on, row_exit as scope_exit, with_on, with_plays, with_row-on, initial_gives, shallow_push, aside_play, block_gives, block_stops, err_played, honest_played, initials_play, initials_stop, inside_held, inside_sound, locals_play, renamed_of, replaced_of}
+use Rattle.wl_eval.proofs.GuardParts.{guard_block, guard_condition, guard_module, guard_none, guard_with, body_depth, condition_by, condition_gives, condition_is, condition_on, module_guarded, module_sized, module_stops, renamed_shallow, replaced_shallow, with_below, with_falls, with_guarded, with_sized, with_stops, value_shallow}
+use Rattle.wl_expr.proofs.Items.{one_item, two_items}
+use Rattle.wl_desk.specs.Desk.{with_heard}
+use Rattle.wl_eval.specs.Endings.{EndsBy, quiet_end, unheard, unless_heard}
+use Rattle.wl_eval.specs.EndRows.{catch_tagged}
+use Rattle.wl_eval.specs.State.{Thrown}
+use Rattle.wl_eval.proofs.Catching.{abort_two, catch_one, catch_two, end_honest, tagged_is, tagged_passed, tagged_thrown, thrown_caught, thrown_on, thrown_stops, catch_others, check_abort_others, check_others, quiet_others, second_honest}
+use Rattle.wl_eval.proofs.Hushing.{check_two, hushed_is, leaf_quietly, quiet_ended, quiet_one, quieted_sound, unheard_sound, either_first, either_second, still_quieted, unheard_is}
+use Rattle.wl_eval.proofs.SlotParts.{built_in-function}
+use Rattle.wl_eval.proofs.IteratorParts.{none_is}
+use Rattle.wl_eval.proofs.LiteralParts.{missed_so, rule_missed, rule_stopped}
+use Rattle.wl_expr.proofs.SameNodes.{same_answer}
+use Rattle.wl_eval.specs.Definitions as definitions
+use Rattle.wl_eval.specs.LeftSides.{with_core}
+use Rattle.wl_eval.specs.Prepared.{Stands, prepared_side, under, updated, one, kept as kept_value}
+use Rattle.wl_eval.proofs.Preparing.{condition_later, leaf_core, held_made, open_made, prepared_stop, unsized_stop, sides_given, head_stop, values_stop, core_done}
+use Rattle.wl_eval.proofs.Setting.{define_sides, define_up_sides, define_tagged_sides, no_condition, row_refusal, row_taken, set_single, set_shape, set_at, set_step, set_over, text_set, plain_stop, plain_done, define_stop}
+use Rattle.wl_eval.proofs.Updating.{changing_stop, changing_none, new_stop, new_given, chosen_is, chosen_honest}
+use Rattle.wl_eval.proofs.DefiningRows.{by, read_some, set_both, set_row-by, delay_both, set_delayed_row-by, up_both, up_set_row-by, up_delay_both, up_set_delayed_row-by, unset_one, unset_row-by, changed_both, changing_by-by, stepping-by, tag_three, tag_set_row-by, tag_delay_three, tag_set_delayed_row-by, tag_unset, tag_unset_row-by, unset_plays, tag_stop, tag_given, unset_given}
+use Rattle.wl_eval.specs.Guards as guards
+use Rattle.wl_eval.specs.Guards.{guarded_value}
+use Rattle.wl_eval.specs.Match.{guard_within, value_inside}
+use Rattle.wl_shape.specs.Scopes as scopes
+use Rattle.wl_eval.proofs.evaluator.Evaluator.+eval.Goals.{check_abort_row-in_default-via-then-args-lt2, check_abort_row-in_default-via-else-args-lt2+else-args-lt3, quiet_row-in_default-via-then-args-lt1, quiet_row-in_default-via-else-args-lt1+else-args-lt2, check_row-in_default-via-then-args-lt2, check_row-in_default-via-else-args-lt2+else-args-lt3, check_row-then-before, check_row-else-before}
+use Rattle.wl_ports.proofs.AsciiNames.{ascii_is_name}
 use Rattle.wl_eval.proofs.evaluator.Evaluator.+eval.Goals as goal
 
 -- ---- which rule applies
@@ -117,21 +155,26 @@ built_in-returns-in_default g t c =
     record {
       played = (subst (λ p. Plays p c.args.self.now (Ok None) c.args.self.now false) (sym (built_in-none _ (no_node _ _ _ c.view.ensures.all c.in_default.not-Node))) plays_done, tt);
       falls = omega arith;
+      ticks = refl;
     }
 
 pub built_in-row-requires : goal.built_in-row-requires
 built_in-row-requires g t c κs within =
     (search rules, (within, (c.requires.sound, args_honest c.args.self.now.store _ _ _ _ c.in-Node.ensures.all c.requires.honest)))
 
+pub built_in-function_row-requires : goal.built_in-function_row-requires
+built_in-function_row-requires g t c =
+    let a = c.args.self.now.store in
+    record {
+      function = head_honest a _ _ _ _ c.in-Node.ensures.all c.requires.honest;
+      args = args_honest a _ _ _ _ c.in-Node.ensures.all c.requires.honest;
+    }
+
 pub built_in-returns-in-Symbol-clause-played : goal.built_in-returns-in-Symbol-clause-played
 built_in-returns-in-Symbol-clause-played g t c =
     let es = c.in-Node.args.now in
     let q = ap (λ us. node (plain c.in-Node.head.now) us) (sym (plains_trees es)) ∙ c.in-Node.ensures.plain in
     subst (λ p. Played found_tree p c.args.self.now c.row.result c.row.new.self) (sym (built_in-node (plain c.in-Node.head.now) (trees es) c.in-Symbol.name.now (plain c.args.form.now) c.in-Symbol.ensures.plain q)) c.row.ensures.played
-
-pub built_in-returns-clause-played : goal.built_in-returns-clause-played
-built_in-returns-clause-played g t c =
-    (plays_no_built_in (plain c.in-Node.head.now) _ _ c.args.self.now c.in-Node.ensures.plain (no_symbol _ _ _ c.view-2.ensures.all c.in_default-view.not-Symbol) (sym c.is_form.ensures ∙ c.if-is_form.false), tt)
 
 -- ---- elements
 
@@ -162,6 +205,7 @@ elements-loop-i-preserved-then-stays_held g t c =
       inside = subst (λ z. AtEvaluated (Inside l.self l.self.depth) a [] (from_list z)) (sym p) (evaluated_push (Inside l.self l.self.depth) a [] before x l.invariant.inside (unless_held _ a.hold_all_complete _ h));
       count = omega (arith, ap length p, length-append before (x ∷ []), l.invariant.count);
       falls = l.invariant.falls;
+      ticks = cc;
     }
 
 pub elements-returns-in_err-value-clause-played : goal.elements-returns-in_err-value-clause-played
@@ -201,6 +245,7 @@ elements-loop-i-preserved g t c =
       inside = subst (λ z. AtEvaluated (Inside k1 k1.depth) a [] (from_list z)) (sym p) (evaluated_push (Inside k1 k1.depth) a [] before y (evaluated_later v.0 a [] before l.invariant.values l.invariant.inside) (unless_given a.hold_all_complete _ v.1.1));
       count = omega (arith, ap length p, length-append before (y ∷ []), l.invariant.count);
       falls = omega (arith, c.in_ok-value.ensures.falls, l.invariant.falls);
+      ticks = cc;
     }
 
 pub elements-returns-clause-played : goal.elements-returns-clause-played
@@ -223,14 +268,14 @@ evaluate-returns-then-is_leaf-clause-played g t c =
 
 pub evaluate-returns-then-depth-self-clause-played : goal.evaluate-returns-then-depth-self-clause-played
 evaluate-returns-then-depth-self-clause-played g t c =
-    (plays_too_deep c.args.e c.args.self.now c.too_deep.new.self (sym c.is_leaf.ensures ∙ c.if-is_leaf.false) c.requires.sound (omega arith) c.in_ok-too_deep.ensures.played, tt)
+    (plays_too_deep c.args.e c.args.self.now c.too_deep.new.self (sym c.is_leaf.ensures ∙ c.if-is_leaf.false) c.requires.sound.recursion (omega arith) c.in_ok-too_deep.ensures.played, tt)
 
 pub evaluate-returns-clause-played : goal.evaluate-returns-clause-played
 evaluate-returns-clause-played g t c =
     let k = c.args.self.now in
     let k1 = c.turns.new.self in
     let w = subst (λ z. TurnsEnd 1 (plain c.args.e) z (Ok c.in_ok-end.end) k1) c.open.ensures c.in_ok-end.ensures.played in (
-      plays_turns c.args.e k k1 (end_of c.in_ok-end.end) (sym c.is_leaf.ensures ∙ c.if-is_leaf.false) c.requires.sound (omega arith) w.0,
+      plays_turns c.args.e k k1 (end_of c.in_ok-end.end) (sym c.is_leaf.ensures ∙ c.if-is_leaf.false) c.requires.sound.recursion (omega arith) w.0,
       end_closed k1 k.depth c.in_ok-end.end (let d = turns_depth 1 (plain c.args.e) (entered k) k1 _ w.0 in omega (arith, d)) w.1,
     )
 
@@ -356,8 +401,37 @@ row-returns-clause-played g t c =
     let a = sym c.named.ensures ∙ ap (option_map algebra.row_by) c.in_default.is in
     let l = sym c.named-2.ensures ∙ ap (option_map lists.row_by) c.in_default-named.is in
     let o = sym c.named-3.ensures ∙ ap (option_map kinds.row_by) c.in_default-named-2.is in
-    let s = none_mapped _ _ (sym c.in_ok-start.ensures.row ∙ ap (option_map stand) c.in_default-2.is) in
+    let s = none_mapped _ _ (sym c.in_ok-started.ensures.row ∙ ap (option_map stand) c.in_default-started.is) in
     (subst (λ p. Plays (sized_row p) c.args.self.now (Ok None) c.args.self.now false) (sym (row_none c.args.name.now es a l o s)) (plays_bind (done None) _ plays_done plays_done), tt)
+
+pub row-control_row-requires : goal.row-control_row-requires
+row-control_row-requires g t c κs within =
+    let es = c.args.args.now in
+    let d = c.in-Some-started.cursor in
+    let q = c.in-Some-started.is in
+    let h = started (trees es) d (control.row_of c.args.name.now) (sym (ap (option_map stand) q) ∙ c.in_ok-started.ensures.row) in (
+      search rules,
+      (
+        within,
+        (
+          c.requires.1.1.1.0,
+          (
+            c.requires.1.1.1.1,
+            (
+              subst (λ (o : Option Cursor). IfSome o (λ z. IsAwaited (stand z) start)) q c.in_ok-started.ensures.awaits,
+              (λ ms w. subst (HoldsFrom ms) q (c.in_ok-started.ensures.passed ms w), row_bounded c.args.name.now h.0 es (stand d) h.1 h.2 (omega arith)),
+            ),
+          ),
+        ),
+      ),
+    )
+
+pub row-returns-in-Some-started-clause-played : goal.row-returns-in-Some-started-clause-played
+row-returns-in-Some-started-clause-played g t c =
+    let es = trees c.args.args.now in
+    let o = sym c.named-3.ensures ∙ ap (option_map kinds.row_by) c.in_default-named-2.is in
+    let h = started es c.in-Some-started.cursor (control.row_of c.args.name.now) (sym (ap (option_map stand) c.in-Some-started.is) ∙ c.in_ok-started.ensures.row) in
+    subst (λ p. Played found_tree (sized_row p) c.args.self.now c.control_row.result c.control_row.new.self) (sym (row_control c.args.name.now es h.0 o h.1)) (c.control_row.ensures.played h.0 h.2)
 
 -- ---- the rules of a node
 
@@ -520,6 +594,7 @@ turns-loop-self-preserved g t c =
       sound = w.0.sound (marked_sound l.count l.self l.invariant.sound);
       honest = w.1;
       falls = let e = ap (λ (z : Evaluator). z.steps) c.note_turn.ensures in omega (arith, e, c.in-Ok-Next.ensures.falls, l.invariant.falls);
+      ticks = c.stepped_turn.ensures.ticks ∙ l.invariant.ticks;
     }
 
 -- ---- up values
@@ -538,6 +613,7 @@ up_values-loop-i-preserved-in_default g t c =
       sound = l.invariant.sound;
       honest = l.invariant.honest;
       falls = l.invariant.falls;
+      ticks = cc;
     }
 
 pub up_values-returns-in_err-found-clause-played : goal.up_values-returns-in_err-found-clause-played
@@ -573,6 +649,7 @@ up_values-loop-i-preserved g t c =
       sound = v.0.sound l.invariant.sound;
       honest = later v.0 _ l.invariant.honest;
       falls = omega (arith, c.in_ok-found.ensures.falls, l.invariant.falls);
+      ticks = cc;
     }
 
 pub up_values-returns-clause-played : goal.up_values-returns-clause-played
@@ -634,6 +711,7 @@ each_applies-loop-i-preserved g t c =
       function = later h.0 f l.invariant.function;
       elements = all_later h.0 xs l.invariant.elements;
       falls = omega arith;
+      ticks = cc;
     }
 
 pub each_applies-returns-clause-played : goal.each_applies-returns-clause-played
@@ -734,6 +812,7 @@ tests_hold-loop-k-init g t c =
       sound = c.requires.sound;
       view = c.requires.view;
       falls = le_refl _;
+      ticks = refl;
     }
 
 pub tests_hold-returns-in-None-clause-played : goal.tests_hold-returns-in-None-clause-played
@@ -769,6 +848,7 @@ tests_hold-loop-k-preserved g t c =
       sound = h.sound k.invariant.sound;
       view = (later h _ k.invariant.view.0, all_later h _ k.invariant.view.1);
       falls = omega arith;
+      ticks = cc;
     }
 
 -- ---- a match
@@ -784,6 +864,7 @@ has_match-bindings-init g t c =
       pattern = c.requires.pattern;
       honest = c.requires.honest;
       falls = le_refl _;
+      ticks = refl;
     }
 
 pub has_match-returns-in_err-found-clause-played : goal.has_match-returns-in_err-found-clause-played
@@ -855,6 +936,7 @@ has_match-bindings-preserved g t c =
       pattern = all_later p _ (all_later h _ b.invariant.pattern);
       honest = later p _ (later h _ b.invariant.honest);
       falls = omega arith;
+      ticks = cc;
     }
 
 pub matches-has_match-requires : goal.matches-has_match-requires
@@ -921,28 +1003,17 @@ filling-returns-then-not-is_guarded-2-clause-played g t c =
     let honest = later s.0 _ (later h _ (subst (λ z. IfOk z (Honest k)) c.in_ok-filled.ensures.made (made_honest k c.args.view.now c.args.body.now c.fill-made.result c.fill-made.ensures.passed c.requires.view c.requires.body))) in
     unguarded _ u c.in_ok-filled.filled _ _ _ (both_not (matching.is_guarded b) (matching.is_guarded u) (ap matching.is_guarded (sym s.1) ∙ sym c.is_guarded-2.ensures ∙ c.if-not-is_guarded-2.true)) s.1 honest sized
 
-pub filling-guard-requires-clause-sound : goal.filling-guard-requires-clause-sound
-filling-guard-requires-clause-sound g t c =
+pub filling-guard-requires : goal.filling-guard-requires
+filling-guard-requires g t c κs within =
     let b = plain c.args.body.now in
     let d = trail_in c.args.view.now in
     let k = c.args.self.now in
     let u = fill_binding b (matching.runs d) in
     let h = (c.in_ok-holds.ensures.played (2 ^ 64) (omega arith)).0 in
-    let on = filled_leads b d _ _ _ _ _ (filling_leads b d k) h c.if-not-holds.false in
-    let s = c.in_ok-filled.ensures.played u (filled_makes _ _ c.fill-made.ensures.filled) in
-    s.0.sound (h.sound c.requires.sound)
-
-pub filling-guard-requires-clause-honest : goal.filling-guard-requires-clause-honest
-filling-guard-requires-clause-honest g t c =
-    let b = plain c.args.body.now in
-    let d = trail_in c.args.view.now in
-    let k = c.args.self.now in
-    let u = fill_binding b (matching.runs d) in
-    let h = (c.in_ok-holds.ensures.played (2 ^ 64) (omega arith)).0 in
-    let on = filled_leads b d _ _ _ _ _ (filling_leads b d k) h c.if-not-holds.false in
     let s = c.in_ok-filled.ensures.played u (filled_makes _ _ c.fill-made.ensures.filled) in
     let honest = later s.0 _ (later h _ (subst (λ z. IfOk z (Honest k)) c.in_ok-filled.ensures.made (made_honest k c.args.view.now c.args.body.now c.fill-made.result c.fill-made.ensures.passed c.requires.view c.requires.body))) in
-    honest
+    let shallow = c.depth-depth.ensures.fits.shallow in
+    (omega (arith, shallow, c.in_ok-filled.ensures.kept, c.in_ok-holds.ensures.falls), (within, (s.0.sound (h.sound c.requires.sound), honest)))
 
 pub filling-returns-clause-played : goal.filling-returns-clause-played
 filling-returns-clause-played g t c =
@@ -972,6 +1043,7 @@ first_filling-bindings-init g t c =
       honest = c.requires.honest;
       body = c.requires.body;
       falls = le_refl _;
+      ticks = refl;
     }
 
 pub first_filling-returns-in_err-found-clause-played : goal.first_filling-returns-in_err-found-clause-played
@@ -1050,6 +1122,7 @@ first_filling-bindings-preserved g t c =
       honest = later filled.0 _ (later h _ b.invariant.honest);
       body = later filled.0 _ (later h _ b.invariant.body);
       falls = omega arith;
+      ticks = cc;
     }
 
 pub rule_result-first_filling-requires : goal.rule_result-first_filling-requires
@@ -1062,7 +1135,25 @@ pub rule_result-returns-clause-played : goal.rule_result-returns-clause-played
 rule_result-returns-clause-played g t c =
     let r = c.args.rule.now in
     let f = c.in_ok-flags.ensures.played in
-    rule_played (plain r.body) (plain r.left) (plain c.args.e.now) (whole c.in_ok-pattern.pattern) f.0 _ _ _ _ f.1 (c.in_ok-pattern.ensures.named f.0 (c.as_slice.ensures.value ∙ f.2)) c.first_filling.ensures.played
+    rule_played (plain r.body) (plain r.left) (plain c.args.e.now) (whole c.in_ok-pattern.pattern) f.0 _ _ _ _ f.1 (c.in_ok-pattern.ensures.named f.0 (c.as_slice-2.ensures.value ∙ f.2)) c.first_filling.ensures.played
+
+pub rule_result-returns-in_err-take_step-clause-played : goal.rule_result-returns-in_err-take_step-clause-played
+rule_result-returns-in_err-take_step-clause-played g t c =
+    let r = c.args.rule.now in
+    let u = plain c.args.e.now in
+    let f = c.in_ok-flags.ensures.played in
+    let fs = c.as_slice.result.now in
+    let m = missed_so f.0 (plain r.left) u fs c.matches_itself.result c.same.result c.matches_itself.ensures c.if-matches_itself.true c.same.ensures c.if-not-same.true (c.as_slice.ensures.value ∙ f.2) in
+    rule_stopped (plain r.body) (plain r.left) u fs f.0 f.1 m _ _ (exit itself found_tree _ _ _ _ _ _ c.from_residual-in_err-take_step.ensures.1 c.in_err-take_step.ensures.played)
+
+pub rule_result-returns-then-not-same-clause-played : goal.rule_result-returns-then-not-same-clause-played
+rule_result-returns-then-not-same-clause-played g t c =
+    let r = c.args.rule.now in
+    let u = plain c.args.e.now in
+    let f = c.in_ok-flags.ensures.played in
+    let fs = c.as_slice.result.now in
+    let m = missed_so f.0 (plain r.left) u fs c.matches_itself.result c.same.result c.matches_itself.ensures c.if-matches_itself.true c.same.ensures c.if-not-same.true (c.as_slice.ensures.value ∙ f.2) in
+    rule_missed (plain r.body) (plain r.left) u fs f.0 f.1 m _ c.in_ok-take_step.ensures.played.0
 
 -- ---- a trial
 
@@ -1093,12 +1184,13 @@ trial-loop-i-preserved g t c =
       rules = rules_later h _ l.invariant.rules;
       honest = later h _ l.invariant.honest;
       falls = omega arith;
+      ticks = cc;
     }
 
 pub trial-returns-clause-played : goal.trial-returns-clause-played
 trial-returns-clause-played g t c = (c.loop-i.invariant.leads _ _ _ (trial_over c.args.rules.now c.loop-i.i (plain c.args.e.now) c.loop-i.self (omega arith)), tt)
 
--- ---- rows of matches
+-- ---- matching rows
 
 pub any_matches-returns-in_err-found-clause-played : goal.any_matches-returns-in_err-found-clause-played
 any_matches-returns-in_err-found-clause-played g t c =
@@ -1124,6 +1216,7 @@ any_matches-loop-i-preserved g t c =
       pattern = later h _ l.invariant.pattern;
       elements = all_later h _ l.invariant.elements;
       falls = omega arith;
+      ticks = cc;
     }
 
 pub any_matches-returns-clause-played : goal.any_matches-returns-clause-played
@@ -1149,6 +1242,7 @@ count_matching-loop-i-preserved-then-not-found g t c =
       elements = all_later h _ l.invariant.elements;
       few = omega arith;
       falls = omega arith;
+      ticks = cc;
     }
 
 pub count_matching-loop-i-preserved : goal.count_matching-loop-i-preserved
@@ -1163,6 +1257,7 @@ count_matching-loop-i-preserved g t c =
       elements = all_later h _ l.invariant.elements;
       few = omega arith;
       falls = omega arith;
+      ticks = cc;
     }
 
 pub count_matching-returns-clause-played : goal.count_matching-returns-clause-played
@@ -1190,6 +1285,7 @@ sifted-loop-i-preserved-then-not-agrees g t c =
       elements = all_later h _ l.invariant.elements;
       found = all_later h _ l.invariant.found;
       falls = omega arith;
+      ticks = cc;
     }
 
 pub sifted-loop-i-preserved : goal.sifted-loop-i-preserved
@@ -1207,6 +1303,7 @@ sifted-loop-i-preserved g t c =
       elements = all_later h _ l.invariant.elements;
       found = subst (AllHonest k1) (sym p) (All-push (Honest k1) before x (all_later h _ l.invariant.found) (subst (Honest k1) (sym c.index-elements-i.is) (all_later h _ l.invariant.elements l.i x (omega arith))));
       falls = omega arith;
+      ticks = cc;
     }
 
 pub sifted-returns-clause-played : goal.sifted-returns-clause-played
@@ -1235,6 +1332,7 @@ cases_by-loop-i-preserved-in_default g t c =
       elements = all_later h _ l.invariant.elements;
       found = all_later h _ l.invariant.found;
       falls = omega arith;
+      ticks = cc;
     }
 
 pub cases_by-loop-i-preserved : goal.cases_by-loop-i-preserved
@@ -1254,6 +1352,7 @@ cases_by-loop-i-preserved g t c =
       elements = all_later h _ l.invariant.elements;
       found = subst (AllHonest k1) (sym p) (All-push (Honest k1) before y (all_later h _ l.invariant.found) honest);
       falls = omega arith;
+      ticks = cc;
     }
 
 pub cases_by-returns-clause-played : goal.cases_by-returns-clause-played
@@ -1347,6 +1446,7 @@ any_part_in-loop-i-preserved g t c =
       pattern = later h _ l.invariant.pattern;
       elements = all_later h _ l.invariant.elements;
       falls = omega (arith, c.in_ok-found.ensures.falls, l.invariant.falls);
+      ticks = cc;
     }
 
 pub any_part_in-returns-clause-played : goal.any_part_in-returns-clause-played
@@ -1385,17 +1485,54 @@ cases_row-returns-clause-played g t c =
     let m = subst (λ zs. Makes (list_of (trees zs)) c.list-made.result) c.as_slice.ensures.value c.list-made.ensures.made in
     pair_row found_tree match_rows.cases_row c.args.args.now e p _ _ _ c.in-Some.ensures (row_made _ (list_of us) _ _ _ _ (plays_bind _ _ h plays_done) (c.given.ensures.played (list_of us) m))
 
+pub cases_row-returns-in_default-clause-played : goal.cases_row-returns-in_default-clause-played
+cases_row-returns-in_default-clause-played g t c = pair_stays match_rows.cases_row c.args.args.now c.args.self.now c.in_default.ensures refl (λ x. refl) (λ x y z ts. refl)
+
 pub count_row-count_matching-requires : goal.count_row-count_matching-requires
 count_row-count_matching-requires g t c κs within =
     let k = c.args.self.now in
     let h = pair_honest k c.args.args.now c.in-Some.e.now c.in-Some.p.now c.in-Some.ensures c.requires.args in
     (search rules, (within, (c.requires.sound, (h.1, kept_honest k.store c.in-Some.e.now c.elements.result.now c.elements.ensures.passed h.0))))
 
+pub count_row-returns-in_default-clause-played : goal.count_row-returns-in_default-clause-played
+count_row-returns-in_default-clause-played g t c = pair_stays match_rows.count_row c.args.args.now c.args.self.now c.in_default.ensures refl (λ x. refl) (λ x y z ts. refl)
+
+pub count_row-returns-in_err-count-clause-played : goal.count_row-returns-in_err-count-clause-played
+count_row-returns-in_err-count-clause-played g t c =
+    let e = c.in-Some.e.now in
+    let p = c.in-Some.p.now in
+    let m = subst (λ ts. Played itself (match_rows.count_matching 0 (plain p) ts) c.args.self.now (Err c.in_err-count.field-0.0) c.count_matching.new.self) c.elements.ensures.value c.in_err-count.ensures.played in
+    pair_row found_tree match_rows.count_row c.args.args.now e p _ _ _ c.in-Some.ensures (row_exit itself _ _ _ _ _ _ c.from_residual.ensures.1 m)
+
+pub count_row-returns-clause-played : goal.count_row-returns-clause-played
+count_row-returns-clause-played g t c =
+    let e = c.in-Some.e.now in
+    let p = c.in-Some.p.now in
+    let h = subst (λ ts. Plays (match_rows.count_matching 0 (plain p) ts) c.args.self.now (Ok c.in_ok-count.count) c.count_matching.new.self false) c.elements.ensures.value c.in_ok-count.ensures.played.0 in
+    pair_row found_tree match_rows.count_row c.args.args.now e p c.args.self.now (Ok (Some c.in_ok-natural.field-0)) c.count_matching.new.self c.in-Some.ensures (row_count _ _ _ c.in_ok-count.count c.in_ok-natural.field-0 h c.in_ok-natural.ensures)
+
 pub member_row-any_matches-requires : goal.member_row-any_matches-requires
 member_row-any_matches-requires g t c κs within =
     let k = c.args.self.now in
     let h = pair_honest k c.args.args.now c.in-Some.e.now c.in-Some.p.now c.in-Some.ensures c.requires.args in
     (search rules, (within, (c.requires.sound, (h.1, kept_honest k.store c.in-Some.e.now c.elements.result.now c.elements.ensures.passed h.0))))
+
+pub member_row-returns-in_default-clause-played : goal.member_row-returns-in_default-clause-played
+member_row-returns-in_default-clause-played g t c = pair_stays match_rows.member_row c.args.args.now c.args.self.now c.in_default.ensures refl (λ x. refl) (λ x y z ts. refl)
+
+pub member_row-returns-in_err-found-clause-played : goal.member_row-returns-in_err-found-clause-played
+member_row-returns-in_err-found-clause-played g t c =
+    let e = c.in-Some.e.now in
+    let p = c.in-Some.p.now in
+    let m = subst (λ ts. Played itself (match_rows.any_matches (plain p) ts) c.args.self.now (Err c.in_err-found.field-0.0) c.any_matches.new.self) c.elements.ensures.value c.in_err-found.ensures.played in
+    pair_row found_tree match_rows.member_row c.args.args.now e p _ _ _ c.in-Some.ensures (row_exit itself _ _ _ _ _ _ c.from_residual.ensures.1 m)
+
+pub member_row-returns-clause-played : goal.member_row-returns-clause-played
+member_row-returns-clause-played g t c =
+    let e = c.in-Some.e.now in
+    let p = c.in-Some.p.now in
+    let h = subst (λ ts. Plays (match_rows.any_matches (plain p) ts) c.args.self.now (Ok c.in_ok-found.found) c.any_matches.new.self false) c.elements.ensures.value c.in_ok-found.ensures.played.0 in
+    pair_row found_tree match_rows.member_row c.args.args.now e p c.args.self.now (Ok (Some c.in_ok-truth.field-0)) c.any_matches.new.self c.in-Some.ensures (row_truth _ (λ b. b) _ _ c.in_ok-found.found c.in_ok-truth.field-0 h c.in_ok-truth.ensures)
 
 pub delete_cases_row-sifted-requires : goal.delete_cases_row-sifted-requires
 delete_cases_row-sifted-requires g t c κs within =
@@ -1428,6 +1565,19 @@ delete_cases_row-returns-clause-played g t c =
     pair_row found_tree match_rows.delete_cases_row c.args.args.now e p _ _ _ c.in-Some.ensures
     (row_at _ _ _ _ _ q (row_made _ (applied h (trees us)) _ _ _ _ (plays_bind _ _ c.in_ok-others.ensures.played.0 plays_done) (c.given.ensures.played (applied h (trees us)) m)))
 
+pub delete_cases_row-returns-in_default-clause-played : goal.delete_cases_row-returns-in_default-clause-played
+delete_cases_row-returns-in_default-clause-played g t c = pair_stays match_rows.delete_cases_row c.args.args.now c.args.self.now c.in_default.ensures refl delete_one delete_many
+
+pub delete_cases_row-returns-in_default-view-clause-played : goal.delete_cases_row-returns-in_default-view-clause-played
+delete_cases_row-returns-in_default-view-clause-played g t c =
+    let k = c.args.self.now in
+    let e = c.in-Some.e.now in
+    let p = c.in-Some.p.now in
+    let h = pair_honest k c.args.args.now e p c.in-Some.ensures c.requires.args in
+    let q = delete_atom (plain e) (plain p) (no_node _ _ _ c.view.ensures.all c.in_default-view.not-Node) in
+    subst (λ z. Played found_tree (sized_row (match_rows.delete_cases_row (trees c.args.args.now))) k (Ok (Some z)) k) (sym c.in_ok-copy.ensures)
+    (pair_row found_tree match_rows.delete_cases_row c.args.args.now e p k (Ok (Some e)) k c.in-Some.ensures (row_at _ _ k (Ok (Some e)) k q (row_gives (prog.result (plain e)) k k e plays_done ((fits_decides (plain e)).1 c.view.ensures.fits) h.0)))
+
 pub match_row-returns-in_err-found-clause-played : goal.match_row-returns-in_err-found-clause-played
 match_row-returns-in_err-found-clause-played g t c =
     pair_row found_tree match_rows.match_row c.args.args.now c.in-Some.e.now c.in-Some.p.now _ _ _ c.in-Some.ensures (row_exit itself _ _ _ _ _ _ c.from_residual.ensures.1 (c.in_err-found.ensures.played (2 ^ 64) (omega arith)))
@@ -1445,55 +1595,1859 @@ match_row-returns-clause-played g t c =
     let h = (c.in_ok-found.ensures.played (2 ^ 64) (omega arith)).0 in
     pair_row found_tree match_rows.match_row c.args.args.now c.in-Some.e.now c.in-Some.p.now c.args.self.now (Ok (Some c.in_ok-truth.field-0)) c.matches.new.self c.in-Some.ensures (row_truth _ (λ b. b) _ _ c.in_ok-found.found c.in_ok-truth.field-0 h c.in_ok-truth.ensures)
 
-pub member_row-returns-in_default-clause-played : goal.member_row-returns-in_default-clause-played
-member_row-returns-in_default-clause-played g t c = pair_stays match_rows.member_row c.args.args.now c.args.self.now c.in_default.ensures refl (λ x. refl) (λ x y z ts. refl)
+-- ---- replacement
 
-pub member_row-returns-in_err-found-clause-played : goal.member_row-returns-in_err-found-clause-played
-member_row-returns-in_err-found-clause-played g t c =
-    let e = c.in-Some.e.now in
-    let p = c.in-Some.p.now in
-    let m = subst (λ ts. Played itself (match_rows.any_matches (plain p) ts) c.args.self.now (Err c.in_err-found.field-0.0) c.any_matches.new.self) c.elements.ensures.value c.in_err-found.ensures.played in
-    pair_row found_tree match_rows.member_row c.args.args.now e p _ _ _ c.in-Some.ensures (row_exit itself _ _ _ _ _ _ c.from_residual.ensures.1 m)
+pub first_result-returns-in_err-found-clause-played : goal.first_result-returns-in_err-found-clause-played
+first_result-returns-in_err-found-clause-played g t c =
+    let l = c.loop-i in
+    let x = c.index-rules-i.result in
+    leads_out found_tree found_tree _ _ _ _ _ _ _ _ _ l.invariant.leads (trial_next c.args.rules.now l.i x (plain c.args.e.now) (omega arith) c.index-rules-i.is) c.from_residual.ensures.1 c.in_err-found.ensures.played
 
-pub member_row-returns-clause-played : goal.member_row-returns-clause-played
-member_row-returns-clause-played g t c =
-    let e = c.in-Some.e.now in
-    let p = c.in-Some.p.now in
-    let h = subst (λ ts. Plays (match_rows.any_matches (plain p) ts) c.args.self.now (Ok c.in_ok-found.found) c.any_matches.new.self false) c.elements.ensures.value c.in_ok-found.ensures.played.0 in
-    pair_row found_tree match_rows.member_row c.args.args.now e p c.args.self.now (Ok (Some c.in_ok-truth.field-0)) c.any_matches.new.self c.in-Some.ensures (row_truth _ (λ b. b) _ _ c.in_ok-found.found c.in_ok-truth.field-0 h c.in_ok-truth.ensures)
+pub first_result-returns-in-Some-clause-played : goal.first_result-returns-in-Some-clause-played
+first_result-returns-in-Some-clause-played g t c =
+    let l = c.loop-i in
+    let x = c.index-rules-i.result in
+    let e = plain c.args.e.now in
+    let on = leads_to _ _ _ _ _ (trial_next c.args.rules.now l.i x e (omega arith) c.index-rules-i.is) l.invariant.leads in
+    let q = matching.trial (map plain_rule (drop (l.i + 1) c.args.rules.now)) e in
+    found_some _ (matching.rule_result (plain_rule x) e) q _ _ _ c.in_ok-found.found c.in-Some.result on c.in_ok-found.ensures.played c.in-Some.is
 
-pub count_row-returns-in_default-clause-played : goal.count_row-returns-in_default-clause-played
-count_row-returns-in_default-clause-played g t c = pair_stays match_rows.count_row c.args.args.now c.args.self.now c.in_default.ensures refl (λ x. refl) (λ x y z ts. refl)
+pub first_result-loop-i-preserved : goal.first_result-loop-i-preserved
+first_result-loop-i-preserved g t c =
+    let l = c.loop-i in
+    let x = c.index-rules-i.result in
+    let e = plain c.args.e.now in
+    let on = leads_to _ _ _ _ _ (trial_next c.args.rules.now l.i x e (omega arith) c.index-rules-i.is) l.invariant.leads in
+    let q = matching.trial (map plain_rule (drop (l.i + 1) c.args.rules.now)) e in
+    let h = c.in_ok-found.ensures.played.0 in
+    record {
+      leads = found_none _ (matching.rule_result (plain_rule x) e) q _ _ _ c.in_ok-found.found on c.in_ok-found.ensures.played c.in_default.not-Some;
+      sound = h.sound l.invariant.sound;
+      rules = rules_later h _ l.invariant.rules;
+      honest = later h _ l.invariant.honest;
+      falls = omega arith;
+      ticks = cc;
+    }
 
-pub count_row-returns-in_err-count-clause-played : goal.count_row-returns-in_err-count-clause-played
-count_row-returns-in_err-count-clause-played g t c =
-    let e = c.in-Some.e.now in
-    let p = c.in-Some.p.now in
-    let m = subst (λ ts. Played itself (match_rows.count_matching 0 (plain p) ts) c.args.self.now (Err c.in_err-count.field-0.0) c.count_matching.new.self) c.elements.ensures.value c.in_err-count.ensures.played in
-    pair_row found_tree match_rows.count_row c.args.args.now e p _ _ _ c.in-Some.ensures (row_exit itself _ _ _ _ _ _ c.from_residual.ensures.1 m)
+pub first_result-returns-clause-played : goal.first_result-returns-clause-played
+first_result-returns-clause-played g t c = (c.loop-i.invariant.leads _ _ _ (trial_over c.args.rules.now c.loop-i.i (plain c.args.e.now) c.loop-i.self (omega arith)), tt)
 
-pub count_row-returns-clause-played : goal.count_row-returns-clause-played
-count_row-returns-clause-played g t c =
-    let e = c.in-Some.e.now in
-    let p = c.in-Some.p.now in
-    let h = subst (λ ts. Plays (match_rows.count_matching 0 (plain p) ts) c.args.self.now (Ok c.in_ok-count.count) c.count_matching.new.self false) c.elements.ensures.value c.in_ok-count.ensures.played.0 in
-    pair_row found_tree match_rows.count_row c.args.args.now e p c.args.self.now (Ok (Some c.in_ok-natural.field-0)) c.count_matching.new.self c.in-Some.ensures (row_count _ _ _ c.in_ok-count.count c.in_ok-natural.field-0 h c.in_ok-natural.ensures)
+pub replace_all-returns-in_err-found-clause-played : goal.replace_all-returns-in_err-found-clause-played
+replace_all-returns-in_err-found-clause-played g t c =
+    let e = c.args.e.now in
+    leads_out found_tree (seen_replaced e) _ _ _ _ _ _ _ _ _ (λ r k o h. h) (replacing_is (map plain_rule c.args.rules.now) (plain e)) c.from_residual.ensures.1 c.in_err-found.ensures.played
 
-pub cases_row-returns-in_default-clause-played : goal.cases_row-returns-in_default-clause-played
-cases_row-returns-in_default-clause-played g t c = pair_stays match_rows.cases_row c.args.args.now c.args.self.now c.in_default.ensures refl (λ x. refl) (λ x y z ts. refl)
+pub replace_all-returns-in-Some-clause-played : goal.replace_all-returns-in-Some-clause-played
+replace_all-returns-in-Some-clause-played g t c =
+    result_replaced (map plain_rule c.args.rules.now) c.args.e.now _ _ c.in_ok-found.found c.in_ok-found.ensures.played c.in-Some.result c.in-Some.is c.weight-weight.ensures.fits
 
-pub delete_cases_row-returns-in_default-clause-played : goal.delete_cases_row-returns-in_default-clause-played
-delete_cases_row-returns-in_default-clause-played g t c = pair_stays match_rows.delete_cases_row c.args.args.now c.args.self.now c.in_default.ensures refl delete_one delete_many
+pub replace_all-returns-in_default-view-clause-played : goal.replace_all-returns-in_default-view-clause-played
+replace_all-returns-in_default-view-clause-played g t c =
+    let rs = map plain_rule c.args.rules.now in
+    let e = c.args.e.now in
+    let on = below_leads rs e _ _ c.in_ok-found.found c.in_ok-found.ensures.played c.in_default.not-Some in
+    leaf_replaced rs e _ _ _ (no_node _ _ _ c.view.ensures.all c.in_default-view.not-Node) c.view.ensures.fits (later c.in_ok-found.ensures.played.0 _ c.requires.honest) on
 
-pub delete_cases_row-returns-in_default-view-clause-played : goal.delete_cases_row-returns-in_default-view-clause-played
-delete_cases_row-returns-in_default-view-clause-played g t c =
+pub replace_all-returns-in_err-new_head-clause-played : goal.replace_all-returns-in_err-new_head-clause-played
+replace_all-returns-in_err-new_head-clause-played g t c =
+    let rs = map plain_rule c.args.rules.now in
+    let e = c.args.e.now in
+    let on = below_leads rs e _ _ c.in_ok-found.found c.in_ok-found.ensures.played c.in_default.not-Some in
+    leads_out (seen_replaced c.in-Node.head.now) (seen_replaced e) _ _ _ _ _ _ _ _ _ on (node_below rs (plain e) (plain c.in-Node.head.now) c.in-Node.args.now c.in-Node.ensures.plain) c.from_residual-in_err-new_head.ensures.1 c.in_err-new_head.ensures.played
+
+pub replace_all-replace_each-requires : goal.replace_all-replace_each-requires
+replace_all-replace_each-requires g t c κs within =
+    let h = c.in_ok-found.ensures.played.0 in
+    let m = c.in_ok-new_head.ensures.played.0 in
+    let d = args_depth (plain c.in-Node.head.now) (plain c.args.e.now) c.in-Node.args.now c.in-Node.ensures.plain in
+    (omega (arith, d, c.in_ok-found.ensures.falls, c.in_ok-new_head.ensures.falls), (within, (m.sound (h.sound c.requires.sound), (rules_later m _ (rules_later h _ c.requires.rules), all_later m _ (all_later h _ (args_honest c.args.self.now.store _ _ _ _ c.in-Node.ensures.all c.requires.honest))))))
+
+pub replace_all-returns-in_err-elements-clause-played : goal.replace_all-returns-in_err-elements-clause-played
+replace_all-returns-in_err-elements-clause-played g t c =
+    let rs = map plain_rule c.args.rules.now in
+    let e = c.args.e.now in
+    let on = below_leads rs e _ _ c.in_ok-found.found c.in_ok-found.ensures.played c.in_default.not-Some in
+    let next = leads_in _ _ _ _ _ _ _ _ on (node_below rs (plain e) (plain c.in-Node.head.now) c.in-Node.args.now c.in-Node.ensures.plain) c.in_ok-new_head.ensures.played.0 in
+    leads_out (seen_each c.in-Node.args.now) (seen_replaced e) _ _ _ _ _ _ _ _ _ next refl c.from_residual-in_err-elements.ensures.1 c.in_err-elements.ensures.played
+
+pub replace_all-returns-clause-played : goal.replace_all-returns-clause-played
+replace_all-returns-clause-played g t c =
+    let rs = map plain_rule c.args.rules.now in
+    let e = c.args.e.now in
+    let h = c.in-Node.head.now in
+    let es = c.in-Node.args.now in
+    let k2 = c.replace_each.new.self in
+    let made = c.in_ok-rebuilt.field-0 in
+    let on = below_leads rs e _ _ c.in_ok-found.found c.in_ok-found.ensures.played c.in_default.not-Some in
+    let next = leads_in _ _ _ _ _ _ _ _ on (node_below rs (plain e) (plain h) es c.in-Node.ensures.plain) c.in_ok-new_head.ensures.played.0 in
+    let m = c.in_ok-new_head.ensures.played in
+    let n = c.in_ok-elements.ensures.played in
+    let is = rebuilt_is e h es c.in-Node.ensures.plain c.view.ensures.fits (part_of h c.in_ok-new_head.new_head) (each_of es c.in_ok-elements.elements) made c.in_ok-rebuilt.ensures in (
+      leads_in _ _ _ _ _ _ _ _ next refl n.0 _ _ _ (plays_done_is (sym is)),
+      rebuilt_honest e h es c.in-Node.ensures.plain c.view.ensures.fits k2 (part_of h c.in_ok-new_head.new_head) (each_of es c.in_ok-elements.elements) made c.in_ok-rebuilt.ensures
+          (later n.0 _ (later m.0 _ (later c.in_ok-found.ensures.played.0 _ c.requires.honest))) (option_later n.0 _ m.1) n.1,
+    )
+
+pub replace_all-replace_all-requires : goal.replace_all-replace_all-requires
+replace_all-replace_all-requires g t c κs within =
+    let h = c.in_ok-found.ensures.played.0 in
+    let d = head_depth (plain c.in-Node.head.now) (plain c.args.e.now) c.in-Node.args.now c.in-Node.ensures.plain in
+    (omega (arith, d, c.in_ok-found.ensures.falls), (within, (h.sound c.requires.sound, (rules_later h _ c.requires.rules, later h _ (head_honest c.args.self.now.store _ _ _ _ c.in-Node.ensures.all c.requires.honest)))))
+
+pub replace_each-replace_all-requires : goal.replace_each-replace_all-requires
+replace_each-replace_all-requires g t c κs within =
+    let l = c.loop-i in
+    let x = c.index-args-i.result in
+    let d = element_depth c.args.args.now l.i x (omega arith) c.index-args-i.is in
+    (omega (arith, d, l.invariant.falls), (within, (l.invariant.sound, (l.invariant.rules, subst (Honest l.self) (sym c.index-args-i.is) (l.invariant.args l.i x (omega arith))))))
+
+pub replace_each-returns-in_err-part-clause-played : goal.replace_each-returns-in_err-part-clause-played
+replace_each-returns-in_err-part-clause-played g t c =
+    let l = c.loop-i in
+    let x = c.index-args-i.result in
+    let us = option_map trees (each_of (take l.i c.args.args.now) l.before) in
+    leads_out (seen_replaced x) (seen_each c.args.args.now) _ _ _ _ _ _ _ _ _ l.invariant.leads (each_next us (map plain_rule c.args.rules.now) c.args.args.now l.i x (omega arith) c.index-args-i.is) c.from_residual.ensures.1 c.in_err-part.ensures.played
+
+pub replace_each-loop-i-preserved : goal.replace_each-loop-i-preserved
+replace_each-loop-i-preserved g t c =
+    let l = c.loop-i in
+    let xs = c.args.args.now in
+    let x = c.index-args-i.result in
+    let k1 = c.replace_all.new.self in
+    let h = c.in_ok-part.ensures.played in
+    record {
+      leads = parts_leads xs l.i x l.before c.in_ok-before.before c.in_ok-part.part (omega arith) c.index-args-i.is c.in_ok-before.ensures (map plain_rule c.args.rules.now) _ _ _ _ h.0 l.invariant.leads;
+      sound = h.0.sound l.invariant.sound;
+      rules = rules_later h.0 _ l.invariant.rules;
+      args = all_later h.0 _ l.invariant.args;
+      before = each_honest xs l.i x l.before c.in_ok-before.before c.in_ok-part.part (omega arith) c.index-args-i.is c.in_ok-before.ensures k1 (each_later h.0 _ l.invariant.before) h.1;
+      falls = omega (arith, c.in_ok-part.ensures.falls, l.invariant.falls);
+      ticks = cc;
+    }
+
+pub replace_each-returns-clause-played : goal.replace_each-returns-clause-played
+replace_each-returns-clause-played g t c =
+    let l = c.loop-i in
+    let xs = c.args.args.now in
+    let rs = map plain_rule c.args.rules.now in
+    let us = option_map trees (each_of (take l.i xs) l.before) in
+    let w = take_whole xs l.i (omega arith) in (
+      subst (λ z. Plays (replacing_each (Some []) rs (trees xs)) c.args.self.now (Ok (option_map trees (each_of z l.before))) l.self false) w (elements_over (replacing_each us rs) us xs l.i _ _ _ (parts_over us rs) (omega arith) l.invariant.leads),
+      subst (λ z. AllHonestMaybe l.self (each_of z l.before)) w l.invariant.before,
+    )
+
+pub replace_repeated-returns-in_err-take_step-clause-played : goal.replace_repeated-returns-in_err-take_step-clause-played
+replace_repeated-returns-in_err-take_step-clause-played g t c n l =
+    let s = c.loop-subject in
+    step_stops seen_result n (map plain_rule c.args.rules.now) (plain c.args.first.now) _ (plain s.subject) _ _ _ _ (s.invariant.passing n l) c.from_residual-in_err-take_step.ensures.1 c.in_err-take_step.ensures.played
+
+pub replace_repeated-returns-in_err-replaced-clause-played : goal.replace_repeated-returns-in_err-replaced-clause-played
+replace_repeated-returns-in_err-replaced-clause-played g t c n l =
+    let s = c.loop-subject in
+    let rs = map plain_rule c.args.rules.now in
+    let first = plain c.args.first.now in
+    let u = plain s.subject in
+    let pass = pass_steps n rs first c.args.self.now u s.self c.take_step.new.self (s.invariant.passing n l) c.in_ok-take_step.ensures.played.0 in
+    again_stops seen_result n rs first _ s.subject _ _ _ _ _ pass c.from_residual-in_err-replaced.ensures.1 c.in_err-replaced.ensures.played
+
+pub replace_repeated-returns-in_err-value-clause-played : goal.replace_repeated-returns-in_err-value-clause-played
+replace_repeated-returns-in_err-value-clause-played g t c n l =
+    let s = c.loop-subject in
+    let rs = map plain_rule c.args.rules.now in
+    let first = plain c.args.first.now in
+    let u = plain s.subject in
+    let pass = pass_steps n rs first c.args.self.now u s.self c.take_step.new.self (s.invariant.passing n l) c.in_ok-take_step.ensures.played.0 in
+    let came = became rs u c.take_step.new.self c.replace_all.new.self _ c.in_ok-replaced.ensures.played.0 in
+    let makes = c.made.ensures.value came.it came.gives in
+    let on = leads_in _ _ _ _ _ _ _ came.it pass.leads refl came.plays in
+    leads_out value seen_result _ _ _ _ _ _ _ _ _ on refl c.from_residual-in_err-value.ensures.1 (c.in_err-value.ensures.played came.it makes)
+
+pub replace_repeated-returns-then-same-clause-played : goal.replace_repeated-returns-then-same-clause-played
+replace_repeated-returns-then-same-clause-played g t c n l =
+    let s = c.loop-subject in
+    let rs = map plain_rule c.args.rules.now in
+    let first = plain c.args.first.now in
+    let u = plain s.subject in
+    let pass = pass_steps n rs first c.args.self.now u s.self c.take_step.new.self (s.invariant.passing n l) c.in_ok-take_step.ensures.played.0 in
+    let came = became rs u c.take_step.new.self c.replace_all.new.self _ c.in_ok-replaced.ensures.played.0 in
+    let makes = c.made.ensures.value came.it came.gives in
+    let on = leads_in _ _ _ _ _ _ _ came.it pass.leads refl came.plays in
+    let v = c.in_ok-value.ensures.played came.it makes in (
+      pass_ends _ pass.left rs u (plain c.in_ok-value.value) _ _ c.same.result c.same.ensures c.if-same.true (leads_in _ _ _ _ _ _ _ _ on refl v.0),
+      later v.0 _ (later c.in_ok-replaced.ensures.played.0 _ (later c.in_ok-take_step.ensures.played.0 _ s.invariant.honest)),
+    )
+
+pub replace_repeated-loop-subject-preserved : goal.replace_repeated-loop-subject-preserved
+replace_repeated-loop-subject-preserved g t c =
+    let s = c.loop-subject in
+    let rs = map plain_rule c.args.rules.now in
+    let first = plain c.args.first.now in
+    let u = plain s.subject in
+    let step = c.in_ok-take_step.ensures.played.0 in
+    let parts = c.in_ok-replaced.ensures.played.0 in
+    let came = became rs u c.take_step.new.self c.replace_all.new.self _ parts in
+    let makes = c.made.ensures.value came.it came.gives in
+    let v = c.in_ok-value.ensures.played came.it makes in
+    record {
+      passing = λ n l.
+          let pass = pass_steps n rs first c.args.self.now u s.self c.take_step.new.self (s.invariant.passing n l) step in
+          let on = leads_in _ _ _ _ _ _ _ came.it pass.leads refl came.plays in
+          record {
+            left = pass.left;
+            enough = omega (arith, pass.enough, c.in_ok-take_step.ensures.less, c.in_ok-replaced.ensures.falls, c.in_ok-value.ensures.falls);
+            leads = again_goes _ pass.left rs u (plain c.in_ok-value.value) _ _ c.same.result c.same.ensures c.if-same.false (leads_in _ _ _ _ _ _ _ _ on refl v.0);
+          };
+      sound = v.0.sound (parts.sound (step.sound s.invariant.sound));
+      rules = rules_later v.0 _ (rules_later parts _ (rules_later step _ s.invariant.rules));
+      honest = v.1.0;
+      falls = omega (arith, s.invariant.falls, c.in_ok-take_step.ensures.falls, c.in_ok-replaced.ensures.falls, c.in_ok-value.ensures.falls);
+      ticks = cc;
+    }
+
+pub replace_repeated-loop-subject-init : goal.replace_repeated-loop-subject-init
+replace_repeated-loop-subject-init g t c =
+    let rs = map plain_rule c.args.rules.now in
+    let first = c.args.first.now in
     let k = c.args.self.now in
+    record {
+      passing = λ n l. subst (λ z. Passing n rs (plain first) k (plain z) k) (sym c.in_ok-subject.ensures) (passing_begins n rs (plain first) k l);
+      sound = c.requires.sound;
+      rules = c.requires.rules;
+      honest = subst (Honest k) (sym c.in_ok-subject.ensures) c.requires.honest;
+      falls = le_refl _;
+      ticks = refl;
+    }
+
+pub replace_repeated-replace_all-requires : goal.replace_repeated-replace_all-requires
+replace_repeated-replace_all-requires g t c κs within =
+    let s = c.loop-subject in
+    let h = c.in_ok-take_step.ensures.played.0 in
+    let d = c.depth-depth.ensures.fits.shallow in
+    (omega (arith, d, s.invariant.falls, c.in_ok-take_step.ensures.falls), (within, (h.sound s.invariant.sound, (rules_later h _ s.invariant.rules, later h _ s.invariant.honest))))
+
+pub replace_all_row-replace_all-requires : goal.replace_all_row-replace_all-requires
+replace_all_row-replace_all-requires g t c κs within =
+    let k = c.args.self.now in
+    let h = pair_honest k c.args.args.now c.in-Some.e.now c.in-Some.r.now c.in-Some.ensures c.requires.args in
+    let rs = read_honest k c.in-Some.r.now c.in_ok-rules.field-0 c.in-Some-2.rules c.in_ok-rules.ensures.passed c.in-Some-2.is h.1 in
+    (omega (arith, c.depth-depth.ensures.fits.shallow), (within, (c.requires.sound, (subst (AllHonestRules k) (sym c.as_slice.ensures.value) rs, h.0))))
+
+pub replace_all_row-returns-clause-played : goal.replace_all_row-returns-clause-played
+replace_all_row-returns-clause-played g t c =
     let e = c.in-Some.e.now in
-    let p = c.in-Some.p.now in
-    let h = pair_honest k c.args.args.now e p c.in-Some.ensures c.requires.args in
-    let q = delete_atom (plain e) (plain p) (no_node _ _ _ c.view.ensures.all c.in_default-view.not-Node) in
-    subst (λ z. Played found_tree (sized_row (match_rows.delete_cases_row (trees c.args.args.now))) k (Ok (Some z)) k) (sym c.in_ok-copy.ensures)
-    (pair_row found_tree match_rows.delete_cases_row c.args.args.now e p k (Ok (Some e)) k c.in-Some.ensures (row_at _ _ k (Ok (Some e)) k q (row_gives (prog.result (plain e)) k k e plays_done ((fits_decides (plain e)).1 c.view.ensures.fits) h.0)))
+    let r = c.in-Some.r.now in
+    let rs = map plain_rule c.in-Some-2.rules.items in
+    let is = read_is c.in_ok-rules.field-0 c.in-Some-2.rules _ c.in-Some-2.is c.in_ok-rules.ensures.rules in
+    let same = ap (map plain_rule) c.as_slice.ensures.value in
+    let h = subst (λ zs. Plays (replacing zs (plain e)) c.args.self.now (Ok (option_map plain (part_of e c.in_ok-replaced.replaced))) c.replace_all.new.self false) same c.in_ok-replaced.ensures.played.0 in
+    let came = became rs (plain e) _ _ _ h in
+    pair_row found_tree match_rows.replace_all_row c.args.args.now e r _ _ _ c.in-Some.ensures
+    (row_at _ _ _ _ _ (replace_all_is (plain e) (plain r) (Some rs) is) (row_made _ came.it _ _ _ _ (plays_bind _ _ came.plays plays_done) (c.given.ensures.played came.it (c.made.ensures.value came.it came.gives))))
+
+pub replace_all_row-returns-in_default-clause-played : goal.replace_all_row-returns-in_default-clause-played
+replace_all_row-returns-in_default-clause-played g t c = pair_stays match_rows.replace_all_row c.args.args.now c.args.self.now c.in_default.ensures refl (λ x. refl) (λ x y z ts. refl)
+
+pub replace_all_row-returns-in_err-replaced-clause-played : goal.replace_all_row-returns-in_err-replaced-clause-played
+replace_all_row-returns-in_err-replaced-clause-played g t c =
+    let e = c.in-Some.e.now in
+    let r = c.in-Some.r.now in
+    let rs = map plain_rule c.in-Some-2.rules.items in
+    let is = read_is c.in_ok-rules.field-0 c.in-Some-2.rules _ c.in-Some-2.is c.in_ok-rules.ensures.rules in
+    let same = ap (map plain_rule) c.as_slice.ensures.value in
+    let h = subst (λ zs. Played (seen_replaced e) (replacing zs (plain e)) c.args.self.now (Err c.in_err-replaced.field-0.0) c.replace_all.new.self) same c.in_err-replaced.ensures.played in
+    pair_row found_tree match_rows.replace_all_row c.args.args.now e r _ _ _ c.in-Some.ensures
+    (row_at _ _ _ _ _ (replace_all_is (plain e) (plain r) (Some rs) is) (exit found_tree found_tree _ _ _ _ _ _ c.from_residual-in_err-replaced.ensures.1 (replacing_stops (seen_replaced e) found_tree rs (plain e) _ _ _ _ h)))
+
+pub replace_all_row-returns-in_default-2-clause-played : goal.replace_all_row-returns-in_default-2-clause-played
+replace_all_row-returns-in_default-2-clause-played g t c =
+    replace_all_stays c.args.args.now c.in-Some.e.now c.in-Some.r.now c.args.self.now c.in-Some.ensures (no_rules_read c.in_ok-rules.field-0 _ c.in_default-2.not-Some c.in_ok-rules.ensures.rules)
+
+pub replace_repeated_row-replace_repeated-requires : goal.replace_repeated_row-replace_repeated-requires
+replace_repeated_row-replace_repeated-requires g t c κs within =
+    let k = c.args.self.now in
+    let h = pair_honest k c.args.args.now c.in-Some.e.now c.in-Some.r.now c.in-Some.ensures c.requires.args in
+    let rs = read_honest k c.in-Some.r.now c.in_ok-rules.field-0 c.in-Some-2.rules c.in_ok-rules.ensures.passed c.in-Some-2.is h.1 in
+    (search rules, (within, (c.requires.sound, (subst (AllHonestRules k) (sym c.as_slice.ensures.value) rs, h.0))))
+
+pub replace_repeated_row-returns-in_err-last-clause-played : goal.replace_repeated_row-returns-in_err-last-clause-played
+replace_repeated_row-returns-in_err-last-clause-played g t c =
+    let e = c.in-Some.e.now in
+    let r = c.in-Some.r.now in
+    let rs = map plain_rule c.in-Some-2.rules.items in
+    let is = read_is c.in_ok-rules.field-0 c.in-Some-2.rules _ c.in-Some-2.is c.in_ok-rules.ensures.rules in
+    let same = ap (map plain_rule) c.as_slice.ensures.value in
+    let h = subst (λ zs. Played seen_result (match_rows.replace_repeated (2 ^ 64) zs (plain e)) c.args.self.now (Err c.in_err-last.field-0.0) c.replace_repeated.new.self) same (c.in_err-last.ensures.played (2 ^ 64) (omega arith)) in
+    pair_row found_tree match_rows.replace_repeated_row c.args.args.now e r _ _ _ c.in-Some.ensures
+    (row_at _ _ _ _ _ (replace_repeated_is (plain e) (plain r) (Some rs) is) (exit seen_result found_tree _ _ _ _ _ _ c.from_residual-in_err-last.ensures.1 h))
+
+pub replace_repeated_row-returns-in_default-clause-played : goal.replace_repeated_row-returns-in_default-clause-played
+replace_repeated_row-returns-in_default-clause-played g t c = pair_stays match_rows.replace_repeated_row c.args.args.now c.args.self.now c.in_default.ensures refl (λ x. refl) (λ x y z ts. refl)
+
+pub replace_repeated_row-returns-clause-played : goal.replace_repeated_row-returns-clause-played
+replace_repeated_row-returns-clause-played g t c =
+    let e = c.in-Some.e.now in
+    let r = c.in-Some.r.now in
+    let rs = map plain_rule c.in-Some-2.rules.items in
+    let is = read_is c.in_ok-rules.field-0 c.in-Some-2.rules _ c.in-Some-2.is c.in_ok-rules.ensures.rules in
+    let same = ap (map plain_rule) c.as_slice.ensures.value in
+    let x = c.in_ok-last.last in
+    let h = subst (λ zs. Played seen_result (match_rows.replace_repeated (2 ^ 64) zs (plain e)) c.args.self.now (Ok x) c.replace_repeated.new.self) same (c.in_ok-last.ensures.played (2 ^ 64) (omega arith)) in
+    repeated_gives c.args.args.now e r rs c.args.self.now c.replace_repeated.new.self c.in-Some.ensures is x h ((fits_decides (plain x)).1 c.weight-weight.ensures.fits)
+
+pub replace_repeated_row-returns-in_default-2-clause-played : goal.replace_repeated_row-returns-in_default-2-clause-played
+replace_repeated_row-returns-in_default-2-clause-played g t c =
+    replace_repeated_stays c.args.args.now c.in-Some.e.now c.in-Some.r.now c.args.self.now c.in-Some.ensures (no_rules_read c.in_ok-rules.field-0 _ c.in_default-2.not-Some c.in_ok-rules.ensures.rules)
+
+pub replace_row-first_result-requires : goal.replace_row-first_result-requires
+replace_row-first_result-requires g t c κs within =
+    let k = c.args.self.now in
+    let h = pair_honest k c.args.args.now c.in-Some.e.now c.in-Some.r.now c.in-Some.ensures c.requires.args in
+    let rs = read_honest k c.in-Some.r.now c.in_ok-rules.field-0 c.in-Some-2.rules c.in_ok-rules.ensures.passed c.in-Some-2.is h.1 in
+    (search rules, (within, (c.requires.sound, (subst (AllHonestRules k) (sym c.as_slice.ensures.value) rs, h.0))))
+
+pub replace_row-returns-in_default-found-clause-played : goal.replace_row-returns-in_default-found-clause-played
+replace_row-returns-in_default-found-clause-played g t c =
+    let e = c.in-Some.e.now in
+    let r = c.in-Some.r.now in
+    let rs = map plain_rule c.in-Some-2.rules.items in
+    let is = read_is c.in_ok-rules.field-0 c.in-Some-2.rules _ c.in-Some-2.is c.in_ok-rules.ensures.rules in
+    let same = ap (map plain_rule) c.as_slice.ensures.value in
+    let h = subst (λ zs. Played found_tree (matching.trial zs (plain e)) c.args.self.now (Ok c.in_ok-found.found) c.first_result.new.self) same c.in_ok-found.ensures.played in
+    let none = trial_none rs (plain e) _ _ c.in_ok-found.found h c.in_default-found.not-Some in
+    let honest = later none _ (pair_honest c.args.self.now c.args.args.now e r c.in-Some.ensures c.requires.args).0 in
+    subst (λ z. Played found_tree (sized_row (match_rows.replace_row (trees c.args.args.now))) c.args.self.now (Ok (Some z)) c.first_result.new.self) (sym c.in_ok-copy.ensures)
+    (not_replaced c.args.args.now e r rs c.args.self.now c.first_result.new.self c.in-Some.ensures is none ((fits_decides (plain e)).1 c.weight-weight.ensures.fits) honest)
+
+pub replace_row-returns-in_default-clause-played : goal.replace_row-returns-in_default-clause-played
+replace_row-returns-in_default-clause-played g t c = pair_stays match_rows.replace_row c.args.args.now c.args.self.now c.in_default.ensures refl (λ x. refl) (λ x y z ts. refl)
+
+pub replace_row-returns-in_err-found-clause-played : goal.replace_row-returns-in_err-found-clause-played
+replace_row-returns-in_err-found-clause-played g t c =
+    let e = c.in-Some.e.now in
+    let r = c.in-Some.r.now in
+    let rs = map plain_rule c.in-Some-2.rules.items in
+    let is = read_is c.in_ok-rules.field-0 c.in-Some-2.rules _ c.in-Some-2.is c.in_ok-rules.ensures.rules in
+    let same = ap (map plain_rule) c.as_slice.ensures.value in
+    let h = subst (λ zs. Played found_tree (matching.trial zs (plain e)) c.args.self.now (Err c.in_err-found.field-0.0) c.first_result.new.self) same c.in_err-found.ensures.played in
+    pair_row found_tree match_rows.replace_row c.args.args.now e r _ _ _ c.in-Some.ensures
+    (row_at _ _ _ _ _ (replace_is (plain e) (plain r) (Some rs) is) (row_exit found_tree _ _ _ _ _ _ c.from_residual-in_err-found.ensures.1 h))
+
+pub replace_row-returns-clause-played : goal.replace_row-returns-clause-played
+replace_row-returns-clause-played g t c =
+    let e = c.in-Some.e.now in
+    let r = c.in-Some.r.now in
+    let rs = map plain_rule c.in-Some-2.rules.items in
+    let is = read_is c.in_ok-rules.field-0 c.in-Some-2.rules _ c.in-Some-2.is c.in_ok-rules.ensures.rules in
+    let x = c.in-Some-found.result in
+    let same = ap (map plain_rule) c.as_slice.ensures.value in
+    let h = subst (λ zs. Played found_tree (matching.trial zs (plain e)) c.args.self.now (Ok c.in_ok-found.found) c.first_result.new.self) same c.in_ok-found.ensures.played in
+    let w = subst (λ o. Played found_tree (matching.trial rs (plain e)) c.args.self.now (Ok o) c.first_result.new.self) c.in-Some-found.is h in
+    replaced_with c.args.args.now e r rs c.args.self.now c.first_result.new.self c.in-Some.ensures is x w ((fits_decides (plain x)).1 c.weight-weight-2.ensures.fits)
+
+pub replace_row-returns-in_default-2-clause-played : goal.replace_row-returns-in_default-2-clause-played
+replace_row-returns-in_default-2-clause-played g t c =
+    replace_stays c.args.args.now c.in-Some.e.now c.in-Some.r.now c.args.self.now c.in-Some.ensures (no_rules_read c.in_ok-rules.field-0 _ c.in_default-2.not-Some c.in_ok-rules.ensures.rules)
+
+pub control_row-drive-requires : goal.control_row-drive-requires
+control_row-drive-requires g t c κs within =
+    (search rules, (within, (c.requires.1.1.1.0, (tt, (c.requires.1.1.1.1.1.0, (record { parts = c.args.args.now; honest = c.requires.1.1.1.1.0; from = λ ms w. (c.requires.1.1.1.1.1.1.0 ms w, tt) }, c.requires.1.1.1.1.1.1.1))))))
+
+pub control_row-returns-in_default-clause-played : goal.control_row-returns-in_default-clause-played
+control_row-returns-in_default-clause-played g t c row e =
+    let es = trees c.args.args.now in
+    let n = ap option_copied (none_is _ c.in_default.not-Some) in
+    subst (λ z. Played found_tree (sized_row (iterated z (row es))) c.args.self.now c.drive.result c.drive.new.self) (sym n ∙ c.iterator_name.ensures.value) (c.drive.ensures.played (row es) e)
+
+pub control_row-returns-then-is_protected-clause-played : goal.control_row-returns-then-is_protected-clause-played
+control_row-returns-then-is_protected-clause-played g t c row e =
+    let es = trees c.args.args.now in
+    let n = sym (ap option_copied c.in-Some.is) ∙ c.iterator_name.ensures.value in
+    subst (λ z. Played found_tree (sized_row (iterated z (row es))) c.args.self.now (Ok None) c.is_protected.new.self) n
+    (protected_row c.in-Some.iterator.now (row es) _ _ c.in_ok-is_protected.is_protected c.in_ok-is_protected.ensures.played c.if-is_protected.true)
+
+pub control_row-drive-requires-2 : goal.control_row-drive-requires-2
+control_row-drive-requires-2 g t c κs within =
+    let h = c.in_ok-is_protected.ensures.played in
+    (search rules, (within, (h.sound c.requires.1.1.1.0, (subst (λ (o : Option (Bor (List ℕ))). IfSome o (λ z. IsName z.now)) c.in-Some.is c.iterator_name.ensures.named, (c.requires.1.1.1.1.1.0, (record { parts = c.args.args.now; honest = all_later h _ c.requires.1.1.1.1.0; from = λ ms w. (c.requires.1.1.1.1.1.1.0 ms w, tt) }, c.requires.1.1.1.1.1.1.1))))))
+
+pub control_row-returns-clause-played : goal.control_row-returns-clause-played
+control_row-returns-clause-played g t c row e =
+    let es = trees c.args.args.now in
+    let n = sym (ap option_copied c.in-Some.is) ∙ c.iterator_name.ensures.value in
+    subst (λ z. Played found_tree (sized_row (iterated z (row es))) c.args.self.now c.drive-2.result c.drive-2.new.self) n
+    (unprotected_row c.in-Some.iterator.now (row es) _ _ c.in_ok-is_protected.is_protected c.in_ok-is_protected.ensures.played _ _ c.if-is_protected.false (c.drive-2.ensures.played (row es) e))
+
+pub drive-answer-answer-requires : goal.drive-answer-answer-requires
+drive-answer-answer-requires g t c κs within = (search rules, (within, (c.requires.sound, (c.requires.name, (refl, (c.requires.awaits, (c.requires.held, c.requires.bounded)))))))
+
+pub drive-give_back_iterator-requires : goal.drive-give_back_iterator-requires
+drive-give_back_iterator-requires g t c =
+    let n = sym c.stops_by_memory.ensures ∙ c.if-stops_by_memory.false in
+    let r = c.answer-answer.ensures.ready n in
+    record { sound = r.sound; taken = r.taken }
+
+pub drive-returns-clause-played : goal.drive-returns-clause-played
+drive-returns-clause-played g t c row e = c.answer-answer.ensures.played row e c.give_back_iterator.new.self c.give_back_iterator.ensures.played
+
+-- ---- from question to question
+
+pub answer-questions-init : goal.answer-questions-init
+answer-questions-init g t c =
+    let x = option_copied c.args.name in
+    record {
+      leads = λ row e. row_begins x row (stand c.args.first) c.args.taken.now c.args.self.now c.requires.taken e;
+      awaited = c.requires.awaits;
+      ready = ready_same x c.args.taken.now c.args.self.now c.requires.sound (none_taken c.args.self.now x c.args.taken.now c.requires.taken);
+      holds = c.requires.held;
+      proceeds = proceeds_first c.args.self.now.steps (after (stand c.args.first) start) c.requires.bounded;
+      falls = le_refl _;
+      ticks = refl;
+    }
+
+pub answer-asked-requires : goal.answer-asked-requires
+answer-asked-requires g t c = c.questions.invariant.awaited
+
+pub answer-returns-in_err-ask-clause-played : goal.answer-returns-in_err-ask-clause-played
+answer-returns-in_err-ask-clause-played g t c row e =
+    let x = option_copied c.args.name in
+    let q = c.questions in
+    finishes_exit x row c.args.self.now c.asked.new.self q.taken c.from_residual.result _ c.from_residual.ensures.1
+    (refused_finishes x row c.args.self.now q.taken (after (stand q.cursor) (told_by q.reply)) q.self c.asked.new.self _ q.invariant.ready.sound (q.invariant.leads row e) (c.in_err-ask.ensures.refused _ refl))
+
+pub answer-returns-in_err-ask-clause-ready : goal.answer-returns-in_err-ask-clause-ready
+answer-returns-in_err-ask-clause-ready g t c =
+    let x = option_copied c.args.name in
+    let q = c.questions in
+    ready_exit c.from_residual.result _ c.from_residual.ensures.1
+    (λ n. ready_then x q.taken q.taken c.args.self.now q.self c.asked.new.self q.invariant.ready (ready_large x q.taken q.self c.asked.new.self q.invariant.ready.sound q.invariant.ready.taken (after (stand q.cursor) (told_by q.reply)) _ (c.in_err-ask.ensures.refused _ refl) n))
+
+pub answer-reply-requires : goal.answer-reply-requires
+answer-reply-requires g t c κs within =
+    let q = c.questions in
+    let r = subst (λ z. Ready (option_copied c.args.name) c.args.self.now z q.taken) (sym c.in_ok-ask.ensures.same) q.invariant.ready in
+    let h = subst (λ z. HonestAsk z c.in_ok-ask.ask) (sym c.in_ok-ask.ensures.same) (asked_honest q.self q.cursor c.asked.new.cursor q.reply c.in_ok-ask.ask q.invariant.holds c.in_ok-ask.ensures.passed) in
+    (search rules, (within, (r.sound, (c.requires.name, (r.taken, h)))))
+
+pub answer-returns-in_err-outcome-clause-played : goal.answer-returns-in_err-outcome-clause-played
+answer-returns-in_err-outcome-clause-played g t c row e =
+    let x = option_copied c.args.name in
+    let q = c.questions in
+    let k0 = c.args.self.now in
+    let a = after (stand q.cursor) (told_by q.reply) in
+    let s = stand c.asked.new.cursor in
+    let led = subst (λ z. Leads (played x None row) k0 (played x (set_aside x q.taken) a) z) (sym c.in_ok-ask.ensures.same) (q.invariant.leads row e) in
+    finishes_exit x row k0 c.reply.new.self c.reply.new.taken c.from_residual-in_err-outcome.result _ c.from_residual-in_err-outcome.ensures.1
+    (c.in_err-outcome.ensures.played row k0 a s led c.in_ok-ask.ensures.posed c.catches-catches.ensures)
+
+pub answer-returns-in_err-outcome-clause-ready : goal.answer-returns-in_err-outcome-clause-ready
+answer-returns-in_err-outcome-clause-ready g t c =
+    let x = option_copied c.args.name in
+    let q = c.questions in
+    let k0 = c.args.self.now in
+    let r = subst (λ z. Ready x k0 z q.taken) (sym c.in_ok-ask.ensures.same) q.invariant.ready in
+    ready_exit c.from_residual-in_err-outcome.result _ c.from_residual-in_err-outcome.ensures.1 (λ n. ready_then x q.taken c.reply.new.taken k0 c.asked.new.self c.reply.new.self r (c.in_err-outcome.ensures.ready n))
+
+pub answer-questions-preserved : goal.answer-questions-preserved
+answer-questions-preserved g t c =
+    let x = option_copied c.args.name in
+    let q = c.questions in
+    let k0 = c.args.self.now in
+    let k1 = c.asked.new.self in
+    let k2 = c.reply.new.self in
+    let same = c.in_ok-ask.ensures.same in
+    let a = after (stand q.cursor) (told_by q.reply) in
+    let s = stand c.asked.new.cursor in
+    let o = c.in_ok-outcome.ensures in
+    let led = λ (row : Row) (e : stand c.args.first ≡ starts row). subst (λ z. Leads (played x None row) k0 (played x (set_aside x q.taken) a) z) (sym same) (q.invariant.leads row e) in
+    let goes = λ (row : Row) (e : stand c.args.first ≡ starts row). subst (λ z. Comes x row k0 s (Ok z) k2 c.reply.new.taken) c.in-Goes.is (o.played row k0 a s (led row e) c.in_ok-ask.ensures.posed c.catches-catches.ensures) in
+    let first = starts_row (stand c.args.first) c.requires.awaits in
+    let one = goes first.0 first.1 in
+    let there = o.ready refl in
+    let r1 = subst (λ z. Ready x k0 z q.taken) (sym same) q.invariant.ready in
+    record {
+      leads = λ row e. (goes row e).leads;
+      awaited = one.awaited;
+      ready = ready_then x q.taken c.reply.new.taken k0 k1 k2 r1 there;
+      holds = holds_next q.self k2 q.cursor c.asked.new.cursor q.reply c.in-Goes.next c.in_ok-ask.ask q.invariant.holds c.in_ok-ask.ensures.passed (subst (λ (z : Evaluator). Grows z.store k2.store) same there.grows) one.honest;
+      proceeds = proceeds_on q._answered k0.steps q.self.steps k2.steps (omega arith) a (plain_ask c.in_ok-ask.ask) s (told_by c.in-Goes.next) c.in_ok-ask.ensures.posed one.awaited (λ z. let l = o.less z in omega (arith, l)) q.invariant.proceeds;
+      falls = omega arith;
+      ticks = cc;
+    }
+
+pub answer-returns-in-Ends-clause-played : goal.answer-returns-in-Ends-clause-played
+answer-returns-in-Ends-clause-played g t c row e =
+    let x = option_copied c.args.name in
+    let q = c.questions in
+    let k0 = c.args.self.now in
+    let a = after (stand q.cursor) (told_by q.reply) in
+    let s = stand c.asked.new.cursor in
+    let led = subst (λ z. Leads (played x None row) k0 (played x (set_aside x q.taken) a) z) (sym c.in_ok-ask.ensures.same) (q.invariant.leads row e) in
+    subst (λ z. Comes x row k0 s (Ok z) c.reply.new.self c.reply.new.taken) c.in-Ends.is (c.in_ok-outcome.ensures.played row k0 a s led c.in_ok-ask.ensures.posed c.catches-catches.ensures)
+
+pub answer-returns-in-Ends-clause-ready : goal.answer-returns-in-Ends-clause-ready
+answer-returns-in-Ends-clause-ready g t c n =
+    let x = option_copied c.args.name in
+    let q = c.questions in
+    let k0 = c.args.self.now in
+    let r = subst (λ z. Ready x k0 z q.taken) (sym c.in_ok-ask.ensures.same) q.invariant.ready in
+    ready_then x q.taken c.reply.new.taken k0 c.asked.new.self c.reply.new.self r (c.in_ok-outcome.ensures.ready refl)
+
+pub answer-unreachable-requires : goal.answer-unreachable-requires
+answer-unreachable-requires g t c =
+    let l = proceeds_ends c.questions._answered c.args.self.now.steps c.questions.self.steps _ (omega arith) c.questions.invariant.proceeds in
+    omega (arith, l, c.questions-test.false)
+
+-- ---- a question
+
+pub caught-evaluate-requires : goal.caught-evaluate-requires
+caught-evaluate-requires g t c κs within = (search rules, (within, (c.requires.sound, c.requires.honest)))
+
+pub caught-returns-clause-played : goal.caught-returns-clause-played
+caught-returns-clause-played g t c =
+    let f = (fits_decides (plain c.args.e)).1 c.weight-weight.ensures.fits in
+    caught_played (plain c.args.e) c.args.self.now c.evaluate.new.self c.in_ok-end.end c.caught.result f c.in_ok-end.ensures.played c.caught.ensures
+
+pub reply-caught-requires : goal.reply-caught-requires
+reply-caught-requires g t c κs within = (search rules, (within, (c.requires.sound, subst (HonestAsk c.args.self.now) c.in-Eval.is c.requires.honest)))
+
+pub reply-returns-in_err-reply-in-Eval-clause-played : goal.reply-returns-in_err-reply-in-Eval-clause-played
+reply-returns-in_err-reply-in-Eval-clause-played g t c row k a s l p w =
+    let x = option_copied c.args.name in
+    let u = c.args.taken.now in
+    comes_exit x row k c.caught.new.self s u c.from_residual.result _ c.from_residual.ensures.1
+    (caught_stops x row k u a c.args.self.now l (plain c.in-Eval.e) _ (p.question ∙ ap (λ z. Some (plain_ask z)) c.in-Eval.is) (catches_behind a _ s c.args.catches p w c.if-catches.true) c.in_err-reply-in-Eval.ensures.played)
+
+pub reply-returns-in_err-reply-in-Eval-clause-ready : goal.reply-returns-in_err-reply-in-Eval-clause-ready
+reply-returns-in_err-reply-in-Eval-clause-ready g t c =
+    ready_exit c.from_residual.result _ c.from_residual.ensures.1
+    (ready_stop (option_copied c.args.name) c.args.taken.now c.args.self.now c.caught.new.self c.requires.sound c.requires.taken caught_reply _ _ c.in_err-reply-in-Eval.ensures.played)
+
+pub reply-returns-then-catches-clause-played : goal.reply-returns-then-catches-clause-played
+reply-returns-then-catches-clause-played g t c row k a s l p w =
+    let x = option_copied c.args.name in
+    let u = c.args.taken.now in
+    let r = c.in_ok-reply-in-Eval.reply in
+    comes_at x row k a _ s (Ok (outcome.Goes r)) c.caught.new.self u p
+    (caught_goes x row k u a c.args.self.now l (plain c.in-Eval.e) r (p.question ∙ ap (λ z. Some (plain_ask z)) c.in-Eval.is) (catches_behind a _ s c.args.catches p w c.if-catches.true) c.in_ok-reply-in-Eval.ensures.played)
+
+pub reply-returns-then-catches-clause-ready : goal.reply-returns-then-catches-clause-ready
+reply-returns-then-catches-clause-ready g t c n = ready_at (option_copied c.args.name) c.args.taken.now c.args.self.now c.caught.new.self c.requires.sound c.requires.taken c.in_ok-reply-in-Eval.ensures.played.0
+
+pub reply-value_of_built-requires : goal.reply-value_of_built-requires
+reply-value_of_built-requires g t c κs within = (search rules, (within, (c.requires.sound, subst (HonestAsk c.args.self.now) c.in-Eval.is c.requires.honest)))
+
+pub reply-returns-in_err-value-in-Eval-clause-played : goal.reply-returns-in_err-value-in-Eval-clause-played
+reply-returns-in_err-value-in-Eval-clause-played g t c row k a s l p w =
+    let x = option_copied c.args.name in
+    let u = c.args.taken.now in
+    let e = c.in-Eval.e in
+    comes_exit x row k c.value_of_built.new.self s u c.from_residual-in_err-value-in-Eval.result _ c.from_residual-in_err-value-in-Eval.ensures.1
+    (value_stops x row k u a c.args.self.now l (plain e) _ (p.question ∙ ap (λ z. Some (plain_ask z)) c.in-Eval.is) (catches_not a _ s c.args.catches p w c.if-catches.false) (c.in_err-value-in-Eval.ensures.played (plain e) refl))
+
+pub reply-returns-in_err-value-in-Eval-clause-ready : goal.reply-returns-in_err-value-in-Eval-clause-ready
+reply-returns-in_err-value-in-Eval-clause-ready g t c =
+    ready_exit c.from_residual-in_err-value-in-Eval.result _ c.from_residual-in_err-value-in-Eval.ensures.1
+    (ready_stop (option_copied c.args.name) c.args.taken.now c.args.self.now c.value_of_built.new.self c.requires.sound c.requires.taken value _ _ (c.in_err-value-in-Eval.ensures.played (plain c.in-Eval.e) refl))
+
+pub reply-returns-in_ok-value-in-Eval-clause-played : goal.reply-returns-in_ok-value-in-Eval-clause-played
+reply-returns-in_ok-value-in-Eval-clause-played g t c row k a s l p w =
+    let x = option_copied c.args.name in
+    let u = c.args.taken.now in
+    let e = c.in-Eval.e in
+    let v = c.in_ok-value-in-Eval.value in
+    comes_at x row k a _ s (Ok (outcome.Goes (replies.Value v))) c.value_of_built.new.self u p
+    (value_goes x row k u a c.args.self.now l (plain e) v (p.question ∙ ap (λ z. Some (plain_ask z)) c.in-Eval.is) (catches_not a _ s c.args.catches p w c.if-catches.false) (c.in_ok-value-in-Eval.ensures.played (plain e) refl))
+
+pub reply-returns-in_ok-value-in-Eval-clause-ready : goal.reply-returns-in_ok-value-in-Eval-clause-ready
+reply-returns-in_ok-value-in-Eval-clause-ready g t c n = ready_at (option_copied c.args.name) c.args.taken.now c.args.self.now c.value_of_built.new.self c.requires.sound c.requires.taken (c.in_ok-value-in-Eval.ensures.played (plain c.in-Eval.e) refl).0
+
+pub reply-matches-requires : goal.reply-matches-requires
+reply-matches-requires g t c κs within = let h = subst (HonestAsk c.args.self.now) c.in-Matches.is c.requires.honest in (search rules, (within, (c.requires.sound, (h.1, h.0))))
+
+pub reply-returns-in_err-matched-in-Matches-clause-played : goal.reply-returns-in_err-matched-in-Matches-clause-played
+reply-returns-in_err-matched-in-Matches-clause-played g t c row k a s l p w =
+    let x = option_copied c.args.name in
+    let u = c.args.taken.now in
+    comes_exit x row k c.matches.new.self s u c.from_residual-in_err-matched-in-Matches.result _ c.from_residual-in_err-matched-in-Matches.ensures.1
+    (match_stops x row k u a c.args.self.now l (plain c.in-Matches.e) (plain c.in-Matches.pattern) _ (p.question ∙ ap (λ z. Some (plain_ask z)) c.in-Matches.is) (c.in_err-matched-in-Matches.ensures.played (2 ^ 64) (omega arith)))
+
+pub reply-returns-in_err-matched-in-Matches-clause-ready : goal.reply-returns-in_err-matched-in-Matches-clause-ready
+reply-returns-in_err-matched-in-Matches-clause-ready g t c =
+    ready_exit c.from_residual-in_err-matched-in-Matches.result _ c.from_residual-in_err-matched-in-Matches.ensures.1
+    (ready_stop (option_copied c.args.name) c.args.taken.now c.args.self.now c.matches.new.self c.requires.sound c.requires.taken itself _ _ (c.in_err-matched-in-Matches.ensures.played (2 ^ 64) (omega arith)))
+
+pub reply-returns-in_ok-matched-in-Matches-clause-played : goal.reply-returns-in_ok-matched-in-Matches-clause-played
+reply-returns-in_ok-matched-in-Matches-clause-played g t c row k a s l p w =
+    let x = option_copied c.args.name in
+    let u = c.args.taken.now in
+    let b = c.in_ok-matched-in-Matches.matched in
+    comes_at x row k a _ s (Ok (outcome.Goes (replies.Matched b))) c.matches.new.self u p
+    (match_goes x row k u a c.args.self.now l (plain c.in-Matches.e) (plain c.in-Matches.pattern) b (p.question ∙ ap (λ z. Some (plain_ask z)) c.in-Matches.is) (c.in_ok-matched-in-Matches.ensures.played (2 ^ 64) (omega arith)).0)
+
+pub reply-returns-in_ok-matched-in-Matches-clause-ready : goal.reply-returns-in_ok-matched-in-Matches-clause-ready
+reply-returns-in_ok-matched-in-Matches-clause-ready g t c n = ready_at (option_copied c.args.name) c.args.taken.now c.args.self.now c.matches.new.self c.requires.sound c.requires.taken (c.in_ok-matched-in-Matches.ensures.played (2 ^ 64) (omega arith)).0
+
+pub reply-returns-in_default-clause-played : goal.reply-returns-in_default-clause-played
+reply-returns-in_default-clause-played g t c row k a s l p w =
+    let x = option_copied c.args.name in
+    let u = c.args.taken.now in
+    let k1 = c.args.self.now in
+    let n = ap option_copied (none_is _ c.in_default.not-Some) in
+    comes_at x row k a _ s (Ok (outcome.Goes replies.Went)) k1 u p
+    (let_goes x row k u a k1 l u (plain c.in-Let.value) (p.question ∙ ap (λ z. Some (plain_ask z)) c.in-Let.is) (set_nothing x u (plain c.in-Let.value) k1 n))
+
+pub reply-returns-in_default-clause-ready : goal.reply-returns-in_default-clause-ready
+reply-returns-in_default-clause-ready g t c n = ready_same (option_copied c.args.name) c.args.taken.now c.args.self.now c.requires.sound c.requires.taken
+
+pub reply-set_iterator-requires : goal.reply-set_iterator-requires
+reply-set_iterator-requires g t c =
+    record {
+      sound = c.requires.sound;
+      name = subst (λ (o : Option (Bor (List ℕ))). IfSome o (λ z. IsName z.now)) c.in-Some.is c.requires.name;
+      honest = subst (HonestAsk c.args.self.now) c.in-Let.is c.requires.honest;
+      taken = subst (λ z. AreTaken c.args.self.now z c.args.taken.now) (ap option_copied c.in-Some.is) c.requires.taken;
+    }
+
+pub reply-returns-in_ok-set_iterator-in-Let-clause-played : goal.reply-returns-in_ok-set_iterator-in-Let-clause-played
+reply-returns-in_ok-set_iterator-in-Let-clause-played g t c row k a s l p w =
+    let x = option_copied c.args.name in
+    let u = c.args.taken.now in
+    let n = c.set_iterator.new.taken in
+    let k1 = c.args.self.now in
+    let k2 = c.set_iterator.new.self in
+    let v = plain c.in-Let.value in
+    let e = ap option_copied c.in-Some.is in
+    comes_at x row k a _ s (Ok (outcome.Goes replies.Went)) k2 n p
+    (let_goes x row k u a k1 l n v (p.question ∙ ap (λ z. Some (plain_ask z)) c.in-Let.is) (set_named x c.in-Some.name.now u n v k1 k2 e c.in_ok-set_iterator-in-Let.ensures.played))
+
+pub reply-returns-in_ok-set_iterator-in-Let-clause-ready : goal.reply-returns-in_ok-set_iterator-in-Let-clause-ready
+reply-returns-in_ok-set_iterator-in-Let-clause-ready g t c n =
+    let x = option_copied c.args.name in
+    let e = ap option_copied c.in-Some.is in
+    ready_set x c.in-Some.name.now c.set_iterator.new.taken c.args.self.now c.set_iterator.new.self e c.requires.sound c.in_ok-set_iterator-in-Let.ensures.played c.in_ok-set_iterator-in-Let.ensures.taken
+
+pub reply-returns-in_err-take_step-in-Pass-clause-played : goal.reply-returns-in_err-take_step-in-Pass-clause-played
+reply-returns-in_err-take_step-in-Pass-clause-played g t c row k a s l p w =
+    let x = option_copied c.args.name in
+    let u = c.args.taken.now in
+    comes_exit x row k c.take_step.new.self s u c.from_residual-in_err-take_step-in-Pass.result _ c.from_residual-in_err-take_step-in-Pass.ensures.1
+    (pass_stops x row k u a c.args.self.now l _ (p.question ∙ ap (λ z. Some (plain_ask z)) c.in-Pass.is) c.in_err-take_step-in-Pass.ensures.played)
+
+pub reply-returns-in_err-take_step-in-Pass-clause-ready : goal.reply-returns-in_err-take_step-in-Pass-clause-ready
+reply-returns-in_err-take_step-in-Pass-clause-ready g t c =
+    ready_exit c.from_residual-in_err-take_step-in-Pass.result _ c.from_residual-in_err-take_step-in-Pass.ensures.1
+    (ready_stop (option_copied c.args.name) c.args.taken.now c.args.self.now c.take_step.new.self c.requires.sound c.requires.taken itself _ _ c.in_err-take_step-in-Pass.ensures.played)
+
+pub reply-returns-in_ok-take_step-in-Pass-clause-played : goal.reply-returns-in_ok-take_step-in-Pass-clause-played
+reply-returns-in_ok-take_step-in-Pass-clause-played g t c row k a s l p w =
+    let x = option_copied c.args.name in
+    let u = c.args.taken.now in
+    comes_at x row k a _ s (Ok (outcome.Goes replies.Went)) c.take_step.new.self u p
+    (pass_goes x row k u a c.args.self.now l (p.question ∙ ap (λ z. Some (plain_ask z)) c.in-Pass.is) c.in_ok-take_step-in-Pass.ensures.played.0)
+
+pub reply-returns-in_ok-take_step-in-Pass-clause-ready : goal.reply-returns-in_ok-take_step-in-Pass-clause-ready
+reply-returns-in_ok-take_step-in-Pass-clause-ready g t c n = ready_at (option_copied c.args.name) c.args.taken.now c.args.self.now c.take_step.new.self c.requires.sound c.requires.taken c.in_ok-take_step-in-Pass.ensures.played.0
+
+pub reply-returns-in_ok-form-in-Overflow-clause-played : goal.reply-returns-in_ok-form-in-Overflow-clause-played
+reply-returns-in_ok-form-in-Overflow-clause-played g t c row k a s l p w =
+    let h = c.in_ok-form-in-Overflow.ensures in
+    overflow_ends (option_copied c.args.name) row k c.args.taken.now a c.args.self.now l c.in_ok-form-in-Overflow.form (p.question ∙ ap (λ z. Some (plain_ask z)) c.in-Overflow.is) (subst (λ z. fits z ≡ true) (sym h.form) refl) h.played h.honest
+
+pub reply-returns-in_ok-form-in-Overflow-clause-ready : goal.reply-returns-in_ok-form-in-Overflow-clause-ready
+reply-returns-in_ok-form-in-Overflow-clause-ready g t c n = ready_at (option_copied c.args.name) c.args.taken.now c.args.self.now c.overflow.new.self c.requires.sound c.requires.taken c.in_ok-form-in-Overflow.ensures.played
+
+pub reply-returns-in-Done-clause-played : goal.reply-returns-in-Done-clause-played
+reply-returns-in-Done-clause-played g t c row k a s l p w =
+    result_ends (option_copied c.args.name) row k c.args.taken.now a c.args.self.now l c.in-Done.e (p.question ∙ ap (λ z. Some (plain_ask z)) c.in-Done.is) p.fits (subst (HonestAsk c.args.self.now) c.in-Done.is c.requires.honest)
+
+pub reply-returns-in-Unchanged-clause-played : goal.reply-returns-in-Unchanged-clause-played
+reply-returns-in-Unchanged-clause-played g t c row k a s l p w = unchanged_ends (option_copied c.args.name) row k c.args.taken.now a c.args.self.now l (p.question ∙ ap (λ z. Some (plain_ask z)) c.in-Unchanged.is)
+
+-- ---- the row of a name
+
+pub initial-returns-in_default-clause-played : goal.initial-returns-in_default-clause-played
+initial-returns-in_default-clause-played g t c =
+    let x = c.args.name.now in
+    let k = c.args.self.now in
+    let e = c.in_ok-copy.ensures in
+    (subst (λ z. Plays (scoping.initial (local_in x)) k (Ok (local_in z)) k false) (sym e) (initial_none x k c.in_default.is), subst (local_names.IsLocal k.store) (sym e) c.requires.local)
+
+pub initial-returns-in_err-value-clause-played : goal.initial-returns-in_err-value-clause-played
+initial-returns-in_err-value-clause-played g t c =
+    let x = c.args.name.now in
+    subst (λ z. Played local_names.local z c.args.self.now c.from_residual-in_err-value.result c.value_of.new.self) (sym (initial_some x c.in-Some.value c.in-Some.is)) (exit value local_names.local _ _ _ _ _ _ c.from_residual-in_err-value.ensures.1 c.in_err-value.ensures.played)
+
+pub initial-returns-clause-played : goal.initial-returns-clause-played
+initial-returns-clause-played g t c =
+    let x = c.args.name.now in
+    let k = c.args.self.now in
+    let k1 = c.value_of.new.self in
+    let v = c.in_ok-value.value in
+    let h = c.in_ok-value.ensures.played in
+    let e = c.in_ok-copy-2.ensures in
+    initial_gives x v c.in_ok-copy-2.field-0 k k1 (plain c.in-Some.value) (initial_some x c.in-Some.value c.in-Some.is) e h.0 (later h.0 x.name c.requires.local.name) h.1.0 c.requires.local.symbol
+
+pub initial-returns-clause-shallow : goal.initial-returns-clause-shallow
+initial-returns-clause-shallow g t c e = value_shallow (plain c.in-Some.value) (plain c.in_ok-value.value) c.args.self.now c.value_of.new.self c.in_ok-value.ensures.played.0 e
+
+pub initials-initial-requires : goal.initials-initial-requires
+initials-initial-requires g t c κs within =
+    let l = c.loop-i in
+    (search rules, (within, (l.invariant.sound, local_at _ c.args.names.now l.i c.index-names-i.result c.loop-i-test.true c.index-names-i.is l.invariant.names)))
+
+pub initials-returns-in_err-local-clause-played : goal.initials-returns-in_err-local-clause-played
+initials-returns-in_err-local-clause-played g t c =
+    let l = c.loop-i in
+    let ns = c.args.names.now in
+    let x = c.index-names-i.result in
+    leads_out local_names.local local_names.local_list _ _ _ _ _ _ _ _ _ l.invariant.leads (initials_is (locals_in l.values.items) (local_in x) (locals_in (drop l.i ns)) (locals_in (drop (l.i + 1) ns)) (locals_at ns l.i x c.loop-i-test.true c.index-names-i.is))
+    c.from_residual-in_err-local.ensures.1 c.in_err-local.ensures.played
+
+pub initials-loop-i-preserved : goal.initials-loop-i-preserved
+initials-loop-i-preserved g t c =
+    let l = c.loop-i in
+    let ns = c.args.names.now in
+    let x = c.index-names-i.result in
+    let y = c.in_ok-local.local in
+    let k1 = c.initial.new.self in
+    let h = c.in_ok-local.ensures.played in
+    let push = c.in_ok-push.ensures.items in
+    record {
+      leads = subst (λ zs. Leads (scoping.initials [] (locals_in ns)) c.args.self.now (scoping.initials zs (locals_in (drop (l.i + 1) ns))) k1) (sym (locals_push l.values.items y _ push))
+          (leads_in _ _ _ _ _ _ _ (local_in y) l.invariant.leads (initials_is (locals_in l.values.items) (local_in x) (locals_in (drop l.i ns)) (locals_in (drop (l.i + 1) ns)) (locals_at ns l.i x c.loop-i-test.true c.index-names-i.is)) h.0);
+      sound = h.0.sound l.invariant.sound;
+      names = locals_later h.0 ns l.invariant.names;
+      values = locals_pushed _ l.values.items y _ push (locals_later h.0 l.values.items l.invariant.values) h.1;
+      shallow = λ e. shallow_push l.values.items y _ push (l.invariant.shallow (omega (arith, e, c.in_ok-local.ensures.falls, l.invariant.falls))) (c.in_ok-local.ensures.shallow (omega (arith, e, c.in_ok-local.ensures.falls, l.invariant.falls)));
+      falls = omega (arith, c.in_ok-local.ensures.falls, l.invariant.falls);
+      ticks = cc;
+    }
+
+pub initials-returns-clause-played : goal.initials-returns-clause-played
+initials-returns-clause-played g t c =
+    let l = c.loop-i in
+    (l.invariant.leads _ _ _ (initials_over (locals_in l.values.items) (locals_in (drop l.i c.args.names.now)) l.self (no_locals c.args.names.now l.i (omega arith))), l.invariant.values)
+
+-- ---- Module
+
+pub module_row-returns-in_default-clause-played : goal.module_row-returns-in_default-clause-played
+module_row-returns-in_default-clause-played g t c = row_stays _ _ (module_row-on (trees c.args.args.now) ∙ ap module_on (sym (rw c.in_default.is at c.in_ok-names.ensures).read))
+
+pub module_row-initials-requires : goal.module_row-initials-requires
+module_row-initials-requires g t c κs within = (search rules, (within, (c.requires.sound, subst (local_names.AreLocals c.args.self.now.store) (sym c.as_slice.ensures.value) ((rw c.in-Some.is at c.in_ok-names.ensures).honest c.args.self.now.store c.requires.args).0)))
+
+pub module_row-returns-in_err-locals-clause-played : goal.module_row-returns-in_err-locals-clause-played
+module_row-returns-in_err-locals-clause-played g t c =
+    row_at _ _ c.args.self.now c.from_residual-in_err-locals.result c.initials.new.self (module_row-on (trees c.args.args.now) ∙ ap module_on (sym (rw c.in-Some.is at c.in_ok-names.ensures).read))
+    (scope_exit local_names.local_list _ _ _ _ _ _ c.from_residual-in_err-locals.ensures.1 (initials_stop c.as_slice.ensures.value _ _ _ c.in_err-locals.ensures.played))
+
+pub module_row-set_locals-requires : goal.module_row-set_locals-requires
+module_row-set_locals-requires g t c =
+    let h = c.in_ok-locals.ensures.played in
+    let d = c.draw_number-number.ensures.played in
+    record { sound = d.sound (h.0.sound c.requires.sound); locals = subst (local_names.AreLocals c.draw_number-number.new.self.store) (sym c.as_slice-2.ensures.value) (locals_later d c.in_ok-locals.locals.items h.1) }
+
+pub module_row-renamed-made-requires : goal.module_row-renamed-made-requires
+module_row-renamed-made-requires g t c = record { symbols = subst local_names.AreSymbols (sym c.as_slice-3.ensures.value) (are_symbols _ c.in_ok-locals.locals.items c.in_ok-locals.ensures.played.1) }
+
+pub module_row-given-requires : goal.module_row-given-requires
+module_row-given-requires g t c =
+    let h = c.in_ok-locals.ensures.played in
+    let d = c.draw_number-number.ensures.played in
+    let m = c.in_ok-set_locals.ensures.played in
+    record { honest = c.renamed-made.ensures.honest c.set_locals.new.self.store (later m _ (later d _ (later h.0 _ ((rw c.in-Some.is at c.in_ok-names.ensures).honest c.args.self.now.store c.requires.args).1))) }
+
+pub module_row-returns-clause-played : goal.module_row-returns-clause-played
+module_row-returns-clause-played g t c =
+    let ls = locals_in c.in-Some.names.items in
+    let b = plain c.in-Some.body.now in
+    let vs = locals_in c.in_ok-locals.locals.items in
+    let n = c.draw_number-number.result in
+    row_at _ _ c.args.self.now c.given.result c.given.new.self (module_row-on (trees c.args.args.now) ∙ ap module_on (sym (rw c.in-Some.is at c.in_ok-names.ensures).read))
+    (row_made _ _ _ c.set_locals.new.self _ _
+    (given_plays _ _ _ c.set_locals.new.self (module_plays ls vs b _ _ (initials_play c.as_slice.ensures.value c.in_ok-locals.ensures.played.0) n _ _ c.draw_number-number.ensures.played (locals_play c.as_slice-2.ensures.value c.draw_number-number.result c.in_ok-set_locals.ensures.played)))
+    (c.given.ensures.played _ (renamed_of c.as_slice-3.ensures.value (plain c.in-Some.body.now) c.draw_number-number.result c.renamed-made.result c.renamed-made.ensures.made)))
+
+-- ---- With
+
+pub with_row-returns-in_default-clause-played : goal.with_row-returns-in_default-clause-played
+with_row-returns-in_default-clause-played g t c = row_stays _ _ (with_row-on (trees c.args.args.now) ∙ ap with_on (sym (rw c.in_default.is at c.in_ok-names.ensures).read))
+
+pub with_row-initials-requires : goal.with_row-initials-requires
+with_row-initials-requires g t c κs within = (search rules, (within, (c.requires.sound, subst (local_names.AreLocals c.args.self.now.store) (sym c.as_slice.ensures.value) ((rw c.in-Some.is at c.in_ok-names.ensures).honest c.args.self.now.store c.requires.args).0)))
+
+pub with_row-returns-in_err-locals-clause-played : goal.with_row-returns-in_err-locals-clause-played
+with_row-returns-in_err-locals-clause-played g t c =
+    row_at _ _ c.args.self.now c.from_residual-in_err-locals.result c.initials.new.self (with_row-on (trees c.args.args.now) ∙ ap with_on (sym (rw c.in-Some.is at c.in_ok-names.ensures).read))
+    (scope_exit local_names.local_list _ _ _ _ _ _ c.from_residual-in_err-locals.ensures.1 (initials_stop c.as_slice.ensures.value _ _ _ c.in_err-locals.ensures.played))
+
+pub with_row-replaced-made-requires : goal.with_row-replaced-made-requires
+with_row-replaced-made-requires g t c = record { symbols = subst local_names.AreSymbols (sym c.as_slice-2.ensures.value) (are_symbols _ c.in_ok-locals.locals.items c.in_ok-locals.ensures.played.1) }
+
+pub with_row-given-requires : goal.with_row-given-requires
+with_row-given-requires g t c =
+    let h = c.in_ok-locals.ensures.played in
+    let a = c.initials.new.self.store in
+    record { honest = c.replaced-made.ensures.honest a (later h.0 _ ((rw c.in-Some.is at c.in_ok-names.ensures).honest c.args.self.now.store c.requires.args).1) (subst (local_names.AreLocals a) (sym c.as_slice-2.ensures.value) h.1) }
+
+pub with_row-returns-clause-played : goal.with_row-returns-clause-played
+with_row-returns-clause-played g t c =
+    let ls = locals_in c.in-Some.names.items in
+    let b = plain c.in-Some.body.now in
+    let vs = locals_in c.in_ok-locals.locals.items in
+    row_at _ _ c.args.self.now c.given.result c.given.new.self (with_row-on (trees c.args.args.now) ∙ ap with_on (sym (rw c.in-Some.is at c.in_ok-names.ensures).read))
+    (row_made _ _ _ c.initials.new.self _ _ (given_plays _ _ _ c.initials.new.self (with_plays ls vs b _ _ (initials_play c.as_slice.ensures.value c.in_ok-locals.ensures.played.0)))
+    (c.given.ensures.played _ (replaced_of c.as_slice-2.ensures.value (plain c.in-Some.body.now) c.replaced-made.result c.replaced-made.ensures.made)))
+
+-- ---- Block
+
+pub block_row-returns-in_default-clause-played : goal.block_row-returns-in_default-clause-played
+block_row-returns-in_default-clause-played g t c = row_stays _ _ (block_row-on (trees c.args.args.now) ∙ ap block_on (sym (rw c.in_default.is at c.in_ok-names.ensures).read))
+
+pub block_row-initials-requires : goal.block_row-initials-requires
+block_row-initials-requires g t c κs within = (search rules, (within, (c.requires.sound, subst (local_names.AreLocals c.args.self.now.store) (sym c.as_slice.ensures.value) ((rw c.in-Some.is at c.in_ok-names.ensures).honest c.args.self.now.store c.requires.args).0)))
+
+pub block_row-returns-in_err-locals-clause-played : goal.block_row-returns-in_err-locals-clause-played
+block_row-returns-in_err-locals-clause-played g t c =
+    row_at _ _ c.args.self.now c.from_residual-in_err-locals.result c.initials.new.self (block_row-on (trees c.args.args.now) ∙ ap block_on (sym (rw c.in-Some.is at c.in_ok-names.ensures).read))
+    (scope_exit local_names.local_list _ _ _ _ _ _ c.from_residual-in_err-locals.ensures.1 (initials_stop c.as_slice.ensures.value _ _ _ c.in_err-locals.ensures.played))
+
+pub block_row-set_aside-requires : goal.block_row-set_aside-requires
+block_row-set_aside-requires g t c =
+    let h = c.in_ok-locals.ensures.played in
+    record { sound = h.0.sound c.requires.sound; locals = subst (local_names.AreLocals c.initials.new.self.store) (sym c.as_slice-2.ensures.value) h.1 }
+
+pub block_row-value_of-value-requires : goal.block_row-value_of-value-requires
+block_row-value_of-value-requires g t c κs within =
+    let h = c.in_ok-locals.ensures.played in
+    let a = c.in_ok-held.ensures.played in
+    (omega (arith, c.in_ok-locals.ensures.falls, c.in_ok-held.ensures.kept), (within, (a.sound (h.0.sound c.requires.sound), later a _ (later h.0 _ ((rw c.in-Some.is at c.in_ok-names.ensures).honest c.args.self.now.store c.requires.args).1))))
+
+pub block_row-give_all-requires : goal.block_row-give_all-requires
+block_row-give_all-requires g t c =
+    let h = c.in_ok-locals.ensures.played in
+    let a = c.in_ok-held.ensures in
+    let n = sym c.stops_by_memory.ensures ∙ c.if-stops_by_memory.false in
+    let v = c.value_of-value.ensures.played in
+    record { sound = inside_sound value _ _ _ _ n v (a.played.sound (h.0.sound c.requires.sound)); held = inside_held value _ _ _ _ c.in_ok-held.held.items n v a.held }
+
+pub block_row-returns-in-Err-clause-played : goal.block_row-returns-in-Err-clause-played
+block_row-returns-in-Err-clause-played g t c =
+    let k = c.args.self.now in
+    let ls = locals_in c.in-Some.names.items in
+    let vs = locals_in c.in_ok-locals.locals.items in
+    let inside = prog.value_of (plain c.in-Some.body.now) in
+    let b = c.give_all.ensures.played in
+    let m =
+    block_played honest_tree ls vs (map held_in c.in_ok-held.held.items) inside k c.initials.new.self c.set_aside.new.self c.value_of-value.new.self c.give_all.new.self c.value_of-value.result (initials_play c.as_slice.ensures.value c.in_ok-locals.ensures.played.0)
+    (aside_play c.as_slice-2.ensures.value c.in_ok-held.ensures.played) (λ x w. later b x w) (honest_played inside _ _ _ c.value_of-value.ensures.played) b in
+    row_at _ _ k (Err c.in-Err.stop) c.give_all.new.self (block_row-on (trees c.args.args.now) ∙ ap block_on (sym (rw c.in-Some.is at c.in_ok-names.ensures).read)) (block_stops (scoping.in_block ls inside) k c.give_all.new.self c.in-Err.stop c.value_of-value.result c.in-Err.is m)
+
+pub block_row-returns-clause-played : goal.block_row-returns-clause-played
+block_row-returns-clause-played g t c =
+    let k = c.args.self.now in
+    let ls = locals_in c.in-Some.names.items in
+    let vs = locals_in c.in_ok-locals.locals.items in
+    let inside = prog.value_of (plain c.in-Some.body.now) in
+    let b = c.give_all.ensures.played in
+    let m =
+    block_played honest_tree ls vs (map held_in c.in_ok-held.held.items) inside k c.initials.new.self c.set_aside.new.self c.value_of-value.new.self c.give_all.new.self c.value_of-value.result (initials_play c.as_slice.ensures.value c.in_ok-locals.ensures.played.0)
+    (aside_play c.as_slice-2.ensures.value c.in_ok-held.ensures.played) (λ x w. later b x w) (honest_played inside _ _ _ c.value_of-value.ensures.played) b in
+    row_at _ _ k (Ok (Some c.in-Ok.value)) c.give_all.new.self (block_row-on (trees c.args.args.now) ∙ ap block_on (sym (rw c.in-Some.is at c.in_ok-names.ensures).read))
+    (block_gives (scoping.in_block ls inside) k c.give_all.new.self c.in-Ok.value c.value_of-value.result c.in-Ok.is m c.weight-weight.ensures.fits)
+
+-- ---- the guard of a condition
+
+pub condition_result-returns-in_default-clause-played : goal.condition_result-returns-in_default-clause-played
+condition_result-returns-in_default-clause-played g t c =
+    let k = c.args.self.now in
+    (subst (λ z. Plays z k (Ok None) k false) (sym (condition_is (trees c.args.args.now) ∙ ap condition_on (sym c.in_default.ensures.value))) plays_done, tt)
+
+pub condition_result-value_of-requires : goal.condition_result-value_of-requires
+condition_result-value_of-requires g t c κs within = (search rules, (within, (c.requires.sound, (c.in-Some.ensures.honest c.args.self.now.store c.requires.args).1)))
+
+pub condition_result-returns-in_err-value-clause-played : goal.condition_result-returns-in_err-value-clause-played
+condition_result-returns-in_err-value-clause-played g t c =
+    let q = condition_is (trees c.args.args.now) ∙ ap condition_on (sym c.in-Some.ensures.value) in
+    subst (λ z. Played found_tree z c.args.self.now c.from_residual.result c.value_of.new.self) (sym q) (exit value found_tree _ _ _ _ _ _ c.from_residual.ensures.1 c.in_err-value.ensures.played)
+
+pub condition_result-returns-then-not-is_symbol-clause-played : goal.condition_result-returns-then-not-is_symbol-clause-played
+condition_result-returns-then-not-is_symbol-clause-played g t c =
+    let b = plain c.in-Some.body.now in
+    let v = plain c.in_ok-value.value in
+    let k1 = c.value_of.new.self in
+    let q = condition_is (trees c.args.args.now) ∙ ap condition_on (sym c.in-Some.ensures.value) in
+    (subst (λ z. Plays z c.args.self.now (Ok None) k1 false) (sym q) (plays_bind _ (condition_by b) c.in_ok-value.ensures.played.0 (condition_gives b v k1 false (sym c.is_symbol.ensures ∙ c.if-not-is_symbol.true))), tt)
+
+pub condition_result-returns-clause-played : goal.condition_result-returns-clause-played
+condition_result-returns-clause-played g t c =
+    let b = plain c.in-Some.body.now in
+    let v = plain c.in_ok-value.value in
+    let k1 = c.value_of.new.self in
+    let h = c.in_ok-value.ensures.played.0 in
+    let q = condition_is (trees c.args.args.now) ∙ ap condition_on (sym c.in-Some.ensures.value) in
+    let w = plays_bind _ (condition_by b) h (condition_gives b v k1 true (sym c.is_symbol.ensures ∙ c.if-not-is_symbol.false)) in (
+      subst (λ z. Plays z c.args.self.now (Ok (Some (plain c.in_ok-copy.field-0))) k1 false) (sym q) (subst (λ (z : Stamped). Plays (prog.value_of (plain c.in-Some.condition.now) >>= condition_by b) c.args.self.now (Ok (Some (plain z))) k1 false) (sym c.in_ok-copy.ensures) w),
+      subst (Honest k1) (sym c.in_ok-copy.ensures) (later h _ (c.in-Some.ensures.honest c.args.self.now.store c.requires.args).0),
+    )
+
+-- ---- the guard of a Module
+
+pub module_guard-returns-in_default-clause-played : goal.module_guard-returns-in_default-clause-played
+module_guard-returns-in_default-clause-played g t c n l =
+    let k = c.args.self.now in
+    let e = plain c.args.e.now in
+    let q : scope_parts scopes.names (elements e) ≡ None = ap (scope_parts scopes.names) (sym c.elements.ensures.elements) ∙ sym (rw c.in_default.is at c.in_ok-names.ensures).read in
+    (subst (λ z. Plays (guards.module_guard n e z) k (Ok (Some (plain c.in_ok-copy.field-0))) k false) (sym q) (plays_done_is (ap (λ z. Some (plain z)) (sym c.in_ok-copy.ensures))), subst (Honest k) (sym c.in_ok-copy.ensures) c.requires.honest)
+
+pub module_guard-initials-requires : goal.module_guard-initials-requires
+module_guard-initials-requires g t c κs within =
+    let a = c.args.self.now.store in
+    (omega arith, (within, (c.requires.sound, subst (local_names.AreLocals a) (sym c.as_slice.ensures.value) ((rw c.in-Some.is at c.in_ok-names.ensures).honest a (c.elements.ensures.honest a c.requires.honest)).0)))
+
+pub module_guard-returns-in_err-locals-clause-played : goal.module_guard-returns-in_err-locals-clause-played
+module_guard-returns-in_err-locals-clause-played g t c n l =
+    let k = c.args.self.now in
+    let e = plain c.args.e.now in
+    let q : scope_parts scopes.names (elements e) ≡ Some (locals_in c.in-Some.names.items, plain c.in-Some.body.now) = ap (scope_parts scopes.names) (sym c.elements.ensures.elements) ∙ sym (rw c.in-Some.is at c.in_ok-names.ensures).read in
+    subst (λ z. Played found_tree (guards.module_guard n e z) k c.from_residual-in_err-locals.result c.initials.new.self) (sym q)
+    (err_played found_tree _ _ _ c.from_residual-in_err-locals.result _ c.from_residual-in_err-locals.ensures.1 (module_stops local_names.local_list (locals_in c.in-Some.names.items) (plain c.in-Some.body.now) e n k _ _ (initials_stop c.as_slice.ensures.value _ _ _ c.in_err-locals.ensures.played)))
+
+pub module_guard-renamed-made-requires : goal.module_guard-renamed-made-requires
+module_guard-renamed-made-requires g t c = record { symbols = subst local_names.AreSymbols (sym c.as_slice-2.ensures.value) (are_symbols _ c.in_ok-locals.locals.items c.in_ok-locals.ensures.played.1) }
+
+pub module_guard-returns-in_err-inner-clause-played : goal.module_guard-returns-in_err-inner-clause-played
+module_guard-returns-in_err-inner-clause-played g t c n l =
+    let k = c.args.self.now in
+    let e = plain c.args.e.now in
+    let ls = locals_in c.in-Some.names.items in
+    let b = plain c.in-Some.body.now in
+    let vs = locals_in c.in_ok-locals.locals.items in
+    let q : scope_parts scopes.names (elements e) ≡ Some (ls, b) = ap (scope_parts scopes.names) (sym c.elements.ensures.elements) ∙ sym (rw c.in-Some.is at c.in_ok-names.ensures).read in
+    let m = renamed_of c.as_slice-2.ensures.value (plain c.in-Some.body.now) c.draw_number-number.result c.renamed-made.result c.renamed-made.ensures.made in
+    subst (λ z. Played found_tree (guards.module_guard n e z) k c.from_residual-in_err-inner.result c.fitted.new.self) (sym q)
+    (err_played found_tree _ _ _ c.from_residual-in_err-inner.result _ c.from_residual-in_err-inner.ensures.1
+    (module_sized ls vs b k _ (initials_play c.as_slice.ensures.value c.in_ok-locals.ensures.played.0) c.draw_number-number.result _ c.draw_number-number.ensures.played _ _ (c.in_err-inner.ensures.played _ m) n e))
+
+pub module_guard-set_locals-requires : goal.module_guard-set_locals-requires
+module_guard-set_locals-requires g t c =
+    let h = c.in_ok-locals.ensures.played in
+    let d = c.draw_number-number.ensures.played in
+    let f = (c.in_ok-inner.ensures.played _ (renamed_of c.as_slice-2.ensures.value (plain c.in-Some.body.now) c.draw_number-number.result c.renamed-made.result c.renamed-made.ensures.made)).0 in
+    record { sound = f.sound (d.sound (h.0.sound c.requires.sound)); locals = subst (local_names.AreLocals c.fitted.new.self.store) (sym c.as_slice-3.ensures.value) (locals_later f c.in_ok-locals.locals.items (locals_later d c.in_ok-locals.locals.items h.1)) }
+
+pub module_guard-guard-requires : goal.module_guard-guard-requires
+module_guard-guard-requires g t c κs within =
+    let k = c.args.self.now in
+    let e = plain c.args.e.now in
+    let ls = locals_in c.in-Some.names.items in
+    let b = plain c.in-Some.body.now in
+    let vs = locals_in c.in_ok-locals.locals.items in
+    let n = c.draw_number-number.result in
+    let q : scope_parts scopes.names (elements e) ≡ Some (ls, b) = ap (scope_parts scopes.names) (sym c.elements.ensures.elements) ∙ sym (rw c.in-Some.is at c.in_ok-names.ensures).read in
+    let h = c.in_ok-locals.ensures.played in
+    let d = c.draw_number-number.ensures.played in
+    let f = c.in_ok-inner.ensures.played _ (renamed_of c.as_slice-2.ensures.value (plain c.in-Some.body.now) c.draw_number-number.result c.renamed-made.result c.renamed-made.ensures.made) in
+    let s = c.in_ok-set_locals.ensures.played in
+    let a = c.args.self.now.store in
+    let x : Honest k c.in_ok-inner.inner = subst (λ z. IfOk z (HonestIn a)) c.in_ok-inner.ensures.made (c.renamed-made.ensures.honest a ((rw c.in-Some.is at c.in_ok-names.ensures).honest a (c.elements.ensures.honest a c.requires.honest)).1) in
+    let i = ap depth f.1 in
+    let j = renamed_shallow b (scoping.names_of vs) n in
+    let o = body_depth scopes.names e ls b q in (
+      omega (arith, i, j, o, c.in_ok-locals.ensures.falls, c.draw_number-number.ensures.kept, c.in_ok-inner.ensures.kept, c.in_ok-set_locals.ensures.kept),
+      (within, (s.sound (f.0.sound (d.sound (h.0.sound c.requires.sound))), later s _ (later f.0 _ (later d _ (later h.0 _ x))))),
+    )
+
+pub module_guard-returns-clause-played : goal.module_guard-returns-clause-played
+module_guard-returns-clause-played g t c n l =
+    let k = c.args.self.now in
+    let e = plain c.args.e.now in
+    let ls = locals_in c.in-Some.names.items in
+    let b = plain c.in-Some.body.now in
+    let vs = locals_in c.in_ok-locals.locals.items in
+    let m = c.draw_number-number.result in
+    let q : scope_parts scopes.names (elements e) ≡ Some (ls, b) = ap (scope_parts scopes.names) (sym c.elements.ensures.elements) ∙ sym (rw c.in-Some.is at c.in_ok-names.ensures).read in
+    let f = c.in_ok-inner.ensures.played _ (renamed_of c.as_slice-2.ensures.value (plain c.in-Some.body.now) c.draw_number-number.result c.renamed-made.result c.renamed-made.ensures.made) in
+    let i = ap depth f.1 in
+    let j = renamed_shallow b (scoping.names_of vs) m in
+    let o = body_depth scopes.names e ls b q in
+    let w = c.guard.ensures.played n (omega (arith, l, i, j, o, c.in_ok-locals.ensures.falls, c.draw_number-number.ensures.kept, c.in_ok-inner.ensures.kept, c.in_ok-set_locals.ensures.kept)) in
+    subst (λ z. Played found_tree (guards.module_guard n e z) k c.guard.result c.guard.new.self) (sym q)
+    (module_guarded ls vs b k _ (initials_play c.as_slice.ensures.value c.in_ok-locals.ensures.played.0) m _ c.draw_number-number.ensures.played c.fitted.new.self c.set_locals.new.self c.guard.new.self n e c.guard.result f.0
+    (locals_play c.as_slice-3.ensures.value c.draw_number-number.result c.in_ok-set_locals.ensures.played) (subst (λ z. Played found_tree (guard_within n z) c.set_locals.new.self c.guard.result c.guard.new.self) f.1 w))
+
+-- ---- the guard of a With
+
+pub with_guard-returns-in_default-clause-played : goal.with_guard-returns-in_default-clause-played
+with_guard-returns-in_default-clause-played g t c n l =
+    let k = c.args.self.now in
+    let e = plain c.args.e.now in
+    let q : scope_parts scopes.values (elements e) ≡ None = ap (scope_parts scopes.values) (sym c.elements.ensures.elements) ∙ sym (rw c.in_default.is at c.in_ok-names.ensures).read in
+    (subst (λ z. Plays (guards.with_guard n e z) k (Ok (Some (plain c.in_ok-copy.field-0))) k false) (sym q) (plays_done_is (ap (λ z. Some (plain z)) (sym c.in_ok-copy.ensures))), subst (Honest k) (sym c.in_ok-copy.ensures) c.requires.honest)
+
+pub with_guard-initials-requires : goal.with_guard-initials-requires
+with_guard-initials-requires g t c κs within =
+    let a = c.args.self.now.store in
+    (omega arith, (within, (c.requires.sound, subst (local_names.AreLocals a) (sym c.as_slice.ensures.value) ((rw c.in-Some.is at c.in_ok-names.ensures).honest a (c.elements.ensures.honest a c.requires.honest)).0)))
+
+pub with_guard-returns-in_err-locals-clause-played : goal.with_guard-returns-in_err-locals-clause-played
+with_guard-returns-in_err-locals-clause-played g t c n l =
+    let k = c.args.self.now in
+    let e = plain c.args.e.now in
+    let q : scope_parts scopes.values (elements e) ≡ Some (locals_in c.in-Some.names.items, plain c.in-Some.body.now) = ap (scope_parts scopes.values) (sym c.elements.ensures.elements) ∙ sym (rw c.in-Some.is at c.in_ok-names.ensures).read in
+    subst (λ z. Played found_tree (guards.with_guard n e z) k c.from_residual-in_err-locals.result c.initials.new.self) (sym q)
+    (err_played found_tree _ _ _ c.from_residual-in_err-locals.result _ c.from_residual-in_err-locals.ensures.1 (with_stops local_names.local_list (locals_in c.in-Some.names.items) (plain c.in-Some.body.now) e n k _ _ (initials_stop c.as_slice.ensures.value _ _ _ c.in_err-locals.ensures.played)))
+
+pub with_guard-replaced-made-requires : goal.with_guard-replaced-made-requires
+with_guard-replaced-made-requires g t c = record { symbols = subst local_names.AreSymbols (sym c.as_slice-2.ensures.value) (are_symbols _ c.in_ok-locals.locals.items c.in_ok-locals.ensures.played.1) }
+
+pub with_guard-returns-in_err-inner-clause-played : goal.with_guard-returns-in_err-inner-clause-played
+with_guard-returns-in_err-inner-clause-played g t c n l =
+    let k = c.args.self.now in
+    let e = plain c.args.e.now in
+    let ls = locals_in c.in-Some.names.items in
+    let b = plain c.in-Some.body.now in
+    let vs = locals_in c.in_ok-locals.locals.items in
+    let q : scope_parts scopes.values (elements e) ≡ Some (ls, b) = ap (scope_parts scopes.values) (sym c.elements.ensures.elements) ∙ sym (rw c.in-Some.is at c.in_ok-names.ensures).read in
+    let m = replaced_of c.as_slice-2.ensures.value (plain c.in-Some.body.now) c.replaced-made.result c.replaced-made.ensures.made in
+    subst (λ z. Played found_tree (guards.with_guard n e z) k c.from_residual-in_err-inner.result c.fitted.new.self) (sym q)
+    (err_played found_tree _ _ _ c.from_residual-in_err-inner.result _ c.from_residual-in_err-inner.ensures.1 (with_sized ls vs b k _ (initials_play c.as_slice.ensures.value c.in_ok-locals.ensures.played.0) _ _ (c.in_err-inner.ensures.played _ m) n e))
+
+pub with_guard-guard-requires : goal.with_guard-guard-requires
+with_guard-guard-requires g t c κs within =
+    let k = c.args.self.now in
+    let e = plain c.args.e.now in
+    let ls = locals_in c.in-Some.names.items in
+    let b = plain c.in-Some.body.now in
+    let us = c.in_ok-locals.locals.items in
+    let q : scope_parts scopes.values (elements e) ≡ Some (ls, b) = ap (scope_parts scopes.values) (sym c.elements.ensures.elements) ∙ sym (rw c.in-Some.is at c.in_ok-names.ensures).read in
+    let h = c.in_ok-locals.ensures.played in
+    let f = c.in_ok-inner.ensures.played _ (replaced_of c.as_slice-2.ensures.value (plain c.in-Some.body.now) c.replaced-made.result c.replaced-made.ensures.made) in
+    let a = c.initials.new.self.store in
+    let y = later h.0 _ ((rw c.in-Some.is at c.in_ok-names.ensures).honest c.args.self.now.store (c.elements.ensures.honest c.args.self.now.store c.requires.honest)).1 in
+    let x : Honest c.initials.new.self c.in_ok-inner.inner = subst (λ z. IfOk z (HonestIn a)) c.in_ok-inner.ensures.made (c.replaced-made.ensures.honest a y (subst (local_names.AreLocals a) (sym c.as_slice-2.ensures.value) h.1)) in
+    let i = ap depth f.1 in
+    let o = body_depth scopes.values e ls b q in
+    let less = with_falls k.steps c.fitted.new.self.steps (depth (plain c.in_ok-inner.inner)) (depth e) (omega (arith, c.in_ok-locals.ensures.falls, c.in_ok-inner.ensures.kept)) c.depth-depth.ensures.fits.shallow
+    (λ z. let j = replaced_shallow b us (c.in_ok-locals.ensures.shallow (omega (arith, z, c.in_ok-inner.ensures.kept))) in omega (arith, i, j, o)) in
+    (omega (arith, less), (within, (f.0.sound (h.0.sound c.requires.sound), later f.0 _ x)))
+
+pub with_guard-returns-clause-played : goal.with_guard-returns-clause-played
+with_guard-returns-clause-played g t c n l =
+    let k = c.args.self.now in
+    let e = plain c.args.e.now in
+    let ls = locals_in c.in-Some.names.items in
+    let b = plain c.in-Some.body.now in
+    let us = c.in_ok-locals.locals.items in
+    let q : scope_parts scopes.values (elements e) ≡ Some (ls, b) = ap (scope_parts scopes.values) (sym c.elements.ensures.elements) ∙ sym (rw c.in-Some.is at c.in_ok-names.ensures).read in
+    let f = c.in_ok-inner.ensures.played _ (replaced_of c.as_slice-2.ensures.value (plain c.in-Some.body.now) c.replaced-made.result c.replaced-made.ensures.made) in
+    let i = ap depth f.1 in
+    let o = body_depth scopes.values e ls b q in
+    let below = with_below k.steps c.fitted.new.self.steps (depth (plain c.in_ok-inner.inner)) (depth e) n (omega (arith, c.in_ok-locals.ensures.falls, c.in_ok-inner.ensures.kept)) c.depth-depth.ensures.fits.shallow
+    (λ z. let j = replaced_shallow b us (c.in_ok-locals.ensures.shallow (omega (arith, z, c.in_ok-inner.ensures.kept))) in omega (arith, i, j, o)) l in
+    let w = c.guard.ensures.played n below in
+    subst (λ z. Played found_tree (guards.with_guard n e z) k c.guard.result c.guard.new.self) (sym q)
+    (with_guarded ls (locals_in us) b k _ (initials_play c.as_slice.ensures.value c.in_ok-locals.ensures.played.0) c.fitted.new.self c.guard.new.self n e c.guard.result f.0
+    (subst (λ z. Played found_tree (guard_within n z) c.fitted.new.self c.guard.result c.guard.new.self) f.1 w))
+
+-- ---- the guard of a Block
+
+pub block_guard-returns-in_default-clause-played : goal.block_guard-returns-in_default-clause-played
+block_guard-returns-in_default-clause-played g t c n l =
+    let k = c.args.self.now in
+    let e = plain c.args.e.now in
+    let q : scope_parts scopes.names (elements e) ≡ None = ap (scope_parts scopes.names) (sym c.elements.ensures.elements) ∙ sym (rw c.in_default.is at c.in_ok-names.ensures).read in
+    (subst (λ z. Plays (guards.block_guard n e z) k (Ok (Some (plain c.in_ok-copy.field-0))) k false) (sym q) (plays_done_is (ap (λ z. Some (plain z)) (sym c.in_ok-copy.ensures))), subst (Honest k) (sym c.in_ok-copy.ensures) c.requires.honest)
+
+pub block_guard-initials-requires : goal.block_guard-initials-requires
+block_guard-initials-requires g t c κs within =
+    let a = c.args.self.now.store in
+    (omega arith, (within, (c.requires.sound, subst (local_names.AreLocals a) (sym c.as_slice.ensures.value) ((rw c.in-Some.is at c.in_ok-names.ensures).honest a (c.elements.ensures.honest a c.requires.honest)).0)))
+
+pub block_guard-returns-in_err-locals-clause-played : goal.block_guard-returns-in_err-locals-clause-played
+block_guard-returns-in_err-locals-clause-played g t c n l =
+    let k = c.args.self.now in
+    let e = plain c.args.e.now in
+    let ls = locals_in c.in-Some.names.items in
+    let b = plain c.in-Some.body.now in
+    let q : scope_parts scopes.names (elements e) ≡ Some (ls, b) = ap (scope_parts scopes.names) (sym c.elements.ensures.elements) ∙ sym (rw c.in-Some.is at c.in_ok-names.ensures).read in
+    subst (λ z. Played found_tree (guards.block_guard n e z) k c.from_residual-in_err-locals.result c.initials.new.self) (sym q)
+    (err_played found_tree _ _ _ c.from_residual-in_err-locals.result _ c.from_residual-in_err-locals.ensures.1 (block_exit local_names.local_list found_tree ls (guarded_value n b) k _ _ (initials_stop c.as_slice.ensures.value _ _ _ c.in_err-locals.ensures.played)))
+
+pub block_guard-set_aside-requires : goal.block_guard-set_aside-requires
+block_guard-set_aside-requires g t c =
+    let h = c.in_ok-locals.ensures.played in
+    record { sound = h.0.sound c.requires.sound; locals = subst (local_names.AreLocals c.initials.new.self.store) (sym c.as_slice-2.ensures.value) h.1 }
+
+pub block_guard-guarded_value-found-requires : goal.block_guard-guarded_value-found-requires
+block_guard-guarded_value-found-requires g t c κs within =
+    let a = c.args.self.now.store in
+    let e = plain c.args.e.now in
+    let q : scope_parts scopes.names (elements e) ≡ Some (locals_in c.in-Some.names.items, plain c.in-Some.body.now) = ap (scope_parts scopes.names) (sym c.elements.ensures.elements) ∙ sym (rw c.in-Some.is at c.in_ok-names.ensures).read in
+    let h = c.in_ok-locals.ensures.played in
+    let s = c.in_ok-held.ensures.played in
+    let o = body_depth scopes.names e _ _ q in
+    (omega (arith, o, c.in_ok-locals.ensures.falls, c.in_ok-held.ensures.kept), (within, (s.sound (h.0.sound c.requires.sound), later s _ (later h.0 _ ((rw c.in-Some.is at c.in_ok-names.ensures).honest a (c.elements.ensures.honest a c.requires.honest)).1))))
+
+pub block_guard-give_all-requires : goal.block_guard-give_all-requires
+block_guard-give_all-requires g t c =
+    let k = c.args.self.now in
+    let e = plain c.args.e.now in
+    let q : scope_parts scopes.names (elements e) ≡ Some (locals_in c.in-Some.names.items, plain c.in-Some.body.now) = ap (scope_parts scopes.names) (sym c.elements.ensures.elements) ∙ sym (rw c.in-Some.is at c.in_ok-names.ensures).read in
+    let o = body_depth scopes.names e _ _ q in
+    let h = c.in_ok-locals.ensures.played in
+    let a = c.in_ok-held.ensures in
+    let n = sym c.stops_by_memory.ensures ∙ c.if-stops_by_memory.false in
+    let v = c.guarded_value-found.ensures.played (1001 * k.steps + depth e) (omega (arith, o, c.in_ok-locals.ensures.falls, c.in_ok-held.ensures.kept)) in
+    record { sound = inside_sound found_tree _ _ _ _ n v (a.played.sound (h.0.sound c.requires.sound)); held = inside_held found_tree _ _ _ _ c.in_ok-held.held.items n v a.held }
+
+pub block_guard-returns-clause-played : goal.block_guard-returns-clause-played
+block_guard-returns-clause-played g t c n l =
+    let k = c.args.self.now in
+    let e = plain c.args.e.now in
+    let ls = locals_in c.in-Some.names.items in
+    let vs = locals_in c.in_ok-locals.locals.items in
+    let b = plain c.in-Some.body.now in
+    let q : scope_parts scopes.names (elements e) ≡ Some (ls, b) = ap (scope_parts scopes.names) (sym c.elements.ensures.elements) ∙ sym (rw c.in-Some.is at c.in_ok-names.ensures).read in
+    let o = body_depth scopes.names e ls b q in
+    let v = c.guarded_value-found.ensures.played n (omega (arith, l, o, c.in_ok-locals.ensures.falls, c.in_ok-held.ensures.kept)) in
+    let back = c.give_all.ensures.played in
+    subst (λ z. Played found_tree (guards.block_guard n e z) k c.guarded_value-found.result c.give_all.new.self) (sym q)
+    (block_played found_tree ls vs (map held_in c.in_ok-held.held.items) (guarded_value n b) k c.initials.new.self c.set_aside.new.self c.guarded_value-found.new.self c.give_all.new.self c.guarded_value-found.result
+    (initials_play c.as_slice.ensures.value c.in_ok-locals.ensures.played.0) (aside_play c.as_slice-2.ensures.value c.in_ok-held.ensures.played) (λ x w. option_later back x w) v back)
+
+-- ---- the value of what a guard gives
+
+pub guarded_value-returns-in_err-found-clause-played : goal.guarded_value-returns-in_err-found-clause-played
+guarded_value-returns-in_err-found-clause-played g t c n l = exit found_tree found_tree _ _ _ _ _ _ c.from_residual.ensures.1 (c.in_err-found.ensures.played n l)
+
+pub guarded_value-returns-in_default-clause-played : goal.guarded_value-returns-in_default-clause-played
+guarded_value-returns-in_default-clause-played g t c n l =
+    let h = c.in_ok-found.ensures.played n l in
+    (plays_bind (guard_within n (plain c.args.e.now)) (λ r. value_inside r) (subst (λ o. Plays (guard_within n (plain c.args.e.now)) c.args.self.now (Ok (option_map plain o)) c.guard.new.self false) c.in_default.is h.0) plays_done, tt)
+
+pub guarded_value-value_of-requires : goal.guarded_value-value_of-requires
+guarded_value-value_of-requires g t c κs within =
+    let h = c.in_ok-found.ensures.played (1001 * c.args.self.now.steps + depth (plain c.args.e.now) + 1) (omega arith) in
+    (omega (arith, c.in_ok-found.ensures.falls), (within, (h.0.sound c.requires.sound, subst (HonestMaybe c.guard.new.self) c.in-Some.is h.1)))
+
+pub guarded_value-returns-in_err-value-clause-played : goal.guarded_value-returns-in_err-value-clause-played
+guarded_value-returns-in_err-value-clause-played g t c n l =
+    let e = plain c.args.e.now in
+    let h = c.in_ok-found.ensures.played n l in
+    played_bind found_tree (guard_within n e) (λ r. value_inside r) c.args.self.now c.guard.new.self (Some (plain c.in-Some.result)) _ _ (subst (λ o. Plays (guard_within n e) c.args.self.now (Ok (option_map plain o)) c.guard.new.self false) c.in-Some.is h.0)
+    (exit value found_tree _ _ _ _ _ _ c.from_residual-in_err-value.ensures.1 c.in_err-value.ensures.played)
+
+pub guarded_value-returns-clause-played : goal.guarded_value-returns-clause-played
+guarded_value-returns-clause-played g t c n l =
+    let e = plain c.args.e.now in
+    let h = c.in_ok-found.ensures.played n l in
+    let v = c.in_ok-value.ensures.played in (
+      plays_bind (guard_within n e) (λ r. value_inside r) (subst (λ o. Plays (guard_within n e) c.args.self.now (Ok (option_map plain o)) c.guard.new.self false) c.in-Some.is h.0) (plays_bind _ (λ z. done (Some z)) v.0 plays_done),
+      v.1.0,
+    )
+
+-- ---- guards
+
+pub guard-condition_result-requires : goal.guard-condition_result-requires
+guard-condition_result-requires g t c κs within = (search rules, (within, (c.requires.sound, c.elements.ensures.honest c.args.self.now.store c.requires.honest)))
+
+pub guard-returns-then-is_condition-clause-played : goal.guard-returns-then-is_condition-clause-played
+guard-returns-then-is_condition-clause-played g t c n l =
+    let e = plain c.args.e.now in
+    subst (λ z. Played found_tree z c.args.self.now c.condition_result.result c.condition_result.new.self) (sym (guard_condition n e (omega arith) (sym c.is_condition.ensures ∙ c.if-is_condition.true) ∙ ap matching.condition_result (sym c.elements.ensures.elements)))
+    c.condition_result.ensures.played
+
+pub guard-returns-then-not-is_guarded-clause-played : goal.guard-returns-then-not-is_guarded-clause-played
+guard-returns-then-not-is_guarded-clause-played g t c n l =
+    let e = plain c.args.e.now in (
+      subst (λ z. Plays z c.args.self.now (Ok (Some (plain c.in_ok-copy.field-0))) c.args.self.now false) (sym (guard_none n e (omega arith) (sym c.is_condition.ensures ∙ c.if-is_condition.false) (sym c.is_guarded-is_guarded.ensures ∙ c.if-not-is_guarded.true))) (plays_done_is (ap (λ z. Some (plain z)) (sym c.in_ok-copy.ensures))),
+      subst (Honest c.args.self.now) (sym c.in_ok-copy.ensures) c.requires.honest,
+    )
+
+pub guard-returns-then-is_form-clause-played : goal.guard-returns-then-is_form-clause-played
+guard-returns-then-is_form-clause-played g t c n l =
+    let e = plain c.args.e.now in
+    subst (λ z. Played found_tree z c.args.self.now c.module_guard.result c.module_guard.new.self)
+    (sym (guard_module n e (omega arith) (sym c.is_condition.ensures ∙ c.if-is_condition.false) (sym c.is_guarded-is_guarded.ensures ∙ c.if-not-is_guarded.false) (sym c.is_form.ensures ∙ c.if-is_form.true)))
+    (c.module_guard.ensures.played (n - 1) (omega (arith, l)))
+
+pub guard-returns-then-is_form-2-clause-played : goal.guard-returns-then-is_form-2-clause-played
+guard-returns-then-is_form-2-clause-played g t c n l =
+    let e = plain c.args.e.now in
+    subst (λ z. Played found_tree z c.args.self.now c.with_guard.result c.with_guard.new.self)
+    (sym (guard_with n e (omega arith) (sym c.is_condition.ensures ∙ c.if-is_condition.false) (sym c.is_guarded-is_guarded.ensures ∙ c.if-not-is_guarded.false) (sym c.is_form-2.ensures ∙ c.if-is_form-2.true)))
+    (c.with_guard.ensures.played (n - 1) (omega (arith, l)))
+
+pub guard-returns-clause-played : goal.guard-returns-clause-played
+guard-returns-clause-played g t c n l =
+    let e = plain c.args.e.now in
+    subst (λ z. Played found_tree z c.args.self.now c.block_guard.result c.block_guard.new.self)
+    (sym (guard_block n e (omega arith) (sym c.is_condition.ensures ∙ c.if-is_condition.false) (sym c.is_guarded-is_guarded.ensures ∙ c.if-not-is_guarded.false) (sym c.is_form.ensures ∙ c.if-is_form.false) (sym c.is_form-2.ensures ∙ c.if-is_form-2.false)))
+    (c.block_guard.ensures.played (n - 1) (omega (arith, l)))
+
+pub evaluate_quietly-returns-then-is_leaf-clause-played : goal.evaluate_quietly-returns-then-is_leaf-clause-played
+evaluate_quietly-returns-then-is_leaf-clause-played g t c = (leaf_quietly c.args.e c.args.self.now (sym c.is_leaf.ensures ∙ c.if-is_leaf.true), c.requires.honest)
+
+pub evaluate_quietly-returns-then-depth-self-clause-played : goal.evaluate_quietly-returns-then-depth-self-clause-played
+evaluate_quietly-returns-then-depth-self-clause-played g t c = (c.in_ok-too_deep_quietly.ensures.played c.args.e (sym c.is_leaf.ensures ∙ c.if-is_leaf.false), tt)
+
+pub evaluate_quietly-turns-requires : goal.evaluate_quietly-turns-requires
+evaluate_quietly-turns-requires g t c κs within =
+    let k = c.args.self.now in
+    let h = hushed_is k c.open.new.self c.quiet.new.self c.open.ensures c.quiet.ensures in
+    (search rules, (within, (subst Sound (sym h) (quieted_sound k (omega arith) c.requires.sound), subst (λ z. Honest z c.args.e) (sym h) c.requires.honest)))
+
+pub evaluate_quietly-returns-clause-played : goal.evaluate_quietly-returns-clause-played
+evaluate_quietly-returns-clause-played g t c =
+    let k = c.args.self.now in
+    let h = hushed_is k c.open.new.self c.quiet.new.self c.open.ensures c.quiet.ensures in
+    let w = subst (λ z. TurnsEnd 1 (plain c.args.e) z (Ok c.in_ok-end.end) c.turns.new.self) h c.in_ok-end.ensures.played in
+    quiet_ended c.args.e k c.turns.new.self c.in_ok-end.end c.unquiet.new.self (sym c.is_leaf.ensures ∙ c.if-is_leaf.false) c.requires.sound (omega arith) w c.unquiet.ensures
+
+pub evaluate_quietly-unquiet-requires : goal.evaluate_quietly-unquiet-requires
+evaluate_quietly-unquiet-requires g t c =
+    let k = c.args.self.now in
+    let h = hushed_is k c.open.new.self c.quiet.new.self c.open.ensures c.quiet.ensures in
+    let w = subst (λ z. TurnsEnd 1 (plain c.args.e) z (Ok c.in_ok-end.end) c.turns.new.self) h c.in_ok-end.ensures.played in
+    omega (arith, still_quieted (plain c.args.e) k c.turns.new.self (end_of c.in_ok-end.end) w.0)
+
+pub quiet_row-returns-clause-played : goal.quiet_row-returns-clause-played
+quiet_row-returns-clause-played g t c =
+    let k = c.args.self.now in
+    let k1 = c.evaluate_quietly.new.self in
+    let e = c.e-item.result in
+    let x = c.in_ok-end.end in
+    let es : c.args.args.now ≡ e ∷ [] = search (rules, one_item) in
+    quiet_one k k1 c.args.args.now e x c.passed_on.result es (subst (λ (z : Stamped). EndsBy (quiet_end (plain z)) k (Ok x) k1) c.in_ok-copy.ensures c.in_ok-end.ensures.played) (c.passed_on.ensures k1)
+
+pub quiet_row-returns-in_default-clause-played : goal.quiet_row-returns-in_default-clause-played
+quiet_row-returns-in_default-clause-played g t c =
+    row_stays _ _ (quiet_others c.args.args.now (λ q. elim c.in_default.branch [ quiet_row-in_default-via-then-args-lt1 w ↦ search rules | quiet_row-in_default-via-else-args-lt1+else-args-lt2 w ↦ search rules ]))
+
+pub check_row-evaluate-requires : goal.check_row-evaluate-requires
+check_row-evaluate-requires g t c κs within =
+    let k = c.args.self.now in
+    let q = unheard_is k c.set_heard.new.self c.set_heard.ensures in
+    let e : Honest k c.e-item.result = search rules in
+    (search rules, (within, (subst Sound (sym q) (unheard_sound k c.requires.sound), subst (Honest k) (sym c.in_ok-copy.ensures) e)))
+
+pub check_row-returns-clause-played : goal.check_row-returns-clause-played
+check_row-returns-clause-played g t c =
+    let k = c.args.self.now in
+    let k1 = c.evaluate.new.self in
+    let e = c.e-item.result in
+    let f = c.other-item.result in
+    let x = c.in_ok-end.end in
+    let q = unheard_is k c.set_heard.new.self c.set_heard.ensures in
+    let es : c.args.args.now ≡ e ∷ f ∷ [] = search (rules, two_items) in
+    let w = subst (λ (z : Stamped). Ended (plain z) (unheard k) (Ok x) k1) c.in_ok-copy.ensures (subst (λ z. Ended (plain c.in_ok-copy.field-0) z (Ok x) k1) q c.in_ok-end.ensures.played) in
+    let h : Honest k f = search rules in
+    let o : c.if-before.set_heard ≡ (c.heard-before.result || c.heard-heard.result) =
+    elim c.if-before.branch [ check_row-then-before v ↦ either_first _ _ _ v.if-before.true (v.set_heard-is ∙ v.if-before.true) | check_row-else-before v ↦ either_second _ _ _ v.if-before.false v.set_heard-is ] in
+    check_two k k1 c.args.args.now e f x c.set_heard-2.new.self c.unless_heard.result es h w (c.set_heard-2.ensures ∙ ap (λ b. with_heard b k1.desk) (o ∙ ap₂ (λ a b. a || b) c.heard-before.ensures c.heard-heard.ensures))
+    (λ k2 y z. subst (λ b. Played found_tree (sized_row (unless_heard (plain f) (end_of x, b))) k2 c.unless_heard.result k2) c.heard-heard.ensures (c.unless_heard.ensures k2 y z))
+
+pub check_row-returns-in_default-clause-played : goal.check_row-returns-in_default-clause-played
+check_row-returns-in_default-clause-played g t c =
+    row_stays _ _ (check_others c.args.args.now (λ q. elim c.in_default.branch [ check_row-in_default-via-then-args-lt2 w ↦ search rules | check_row-in_default-via-else-args-lt2+else-args-lt3 w ↦ search rules ]))
+
+pub catch_row-returns-then-args-eq1-clause-played : goal.catch_row-returns-then-args-eq1-clause-played
+catch_row-returns-then-args-eq1-clause-played g t c =
+    let k = c.args.self.now in
+    let k1 = c.evaluate.new.self in
+    let e = c.index-args-0.result in
+    let x = c.in_ok-end.end in
+    let es : c.args.args.now ≡ e ∷ [] = one_item c.args.args.now e (omega (arith, c.if-args-eq1.true)) c.index-args-0.is in
+    catch_one k k1 c.args.args.now e x c.caught.result es (subst (λ (z : Stamped). Ended (plain z) k (Ok x) k1) c.in_ok-copy.ensures c.in_ok-end.ensures.played) (c.caught.ensures k1)
+
+pub catch_row-returns-then-args-eq2-clause-played : goal.catch_row-returns-then-args-eq2-clause-played
+catch_row-returns-then-args-eq2-clause-played g t c =
+    let k = c.args.self.now in
+    let es = c.args.args.now in
+    let e = c.index-args-0-then-args-eq2.result in
+    let p = c.index-args-1.result in
+    let x = c.in_ok-end-2.end in
+    let q : es ≡ e ∷ p ∷ [] = two_items es e p (omega (arith, c.if-args-eq2.true)) c.index-args-0-then-args-eq2.is c.index-args-1.is in
+    catch_two k c.evaluate-then-args-eq2.new.self es e p x c.catch_tagged.result c.catch_tagged.new.self q (subst (λ (z : Stamped). Ended (plain z) k (Ok x) c.evaluate-then-args-eq2.new.self) c.in_ok-copy-2.ensures c.in_ok-end-2.ensures.played) (λ y. c.catch_tagged.ensures.played)
+
+pub catch_row-catch_tagged-requires : goal.catch_row-catch_tagged-requires
+catch_row-catch_tagged-requires g t c κs within =
+    let k = c.args.self.now in
+    let k1 = c.evaluate-then-args-eq2.new.self in
+    let es = c.args.args.now in
+    let e = c.index-args-0-then-args-eq2.result in
+    let p = c.index-args-1.result in
+    let x = c.in_ok-end-2.end in
+    let q : es ≡ e ∷ p ∷ [] = two_items es e p (omega (arith, c.if-args-eq2.true)) c.index-args-0-then-args-eq2.is c.index-args-1.is in
+    let w = c.in_ok-end-2.ensures.played in
+    (search rules, (within, (w.0.sound c.requires.sound, (later w.0 p (second_honest k es e p q c.requires.args), end_honest k1.depth k1 x w.1))))
+
+pub catch_row-returns-clause-played : goal.catch_row-returns-clause-played
+catch_row-returns-clause-played g t c = row_stays _ _ (catch_others c.args.args.now c.if-args-eq1.false c.if-args-eq2.false)
+
+pub check_abort_row-returns-clause-played : goal.check_abort_row-returns-clause-played
+check_abort_row-returns-clause-played g t c =
+    let k = c.args.self.now in
+    let k1 = c.evaluate.new.self in
+    let e = c.e-item.result in
+    let f = c.other-item.result in
+    let x = c.in_ok-end.end in
+    let es : c.args.args.now ≡ e ∷ f ∷ [] = search (rules, two_items) in
+    let h : Honest k f = search rules in
+    abort_two k k1 c.args.args.now e f x c.after_abort.result es (subst (λ (z : Stamped). Ended (plain z) k (Ok x) k1) c.in_ok-copy.ensures c.in_ok-end.ensures.played) (λ y. c.after_abort.ensures k1 y (later c.in_ok-end.ensures.played.0 f h))
+
+pub check_abort_row-returns-in_default-clause-played : goal.check_abort_row-returns-in_default-clause-played
+check_abort_row-returns-in_default-clause-played g t c =
+    row_stays _ _ (check_abort_others c.args.args.now (λ q. elim c.in_default.branch [ check_abort_row-in_default-via-then-args-lt2 w ↦ search rules | check_abort_row-in_default-via-else-args-lt2+else-args-lt3 w ↦ search rules ]))
+
+pub catch_tagged-returns-in_default-clause-played : goal.catch_tagged-returns-in_default-clause-played
+catch_tagged-returns-in_default-clause-played g t c =
+    tagged_passed (plain c.args.pattern.now) c.args.self.now c.args.end c.passed_on.result c.in_default.not-Thrown (c.passed_on.ensures c.args.self.now c.requires.honest)
+
+pub catch_tagged-returns-in-None-clause-played : goal.catch_tagged-returns-in-None-clause-played
+catch_tagged-returns-in-None-clause-played g t c = tagged_thrown (plain c.args.pattern.now) c.args.self.now c.args.end c.in-Thrown.v c.in-Thrown.tag c.in-Thrown.is c.in-None.is c.requires.honest
+
+pub catch_tagged-returns-in-Some-clause-played : goal.catch_tagged-returns-in-Some-clause-played
+catch_tagged-returns-in-Some-clause-played g t c =
+    subst (λ z. Played found_tree (sized_row (catch_tagged (plain c.args.pattern.now) (end_of z))) c.args.self.now c.catch_thrown.result c.catch_thrown.new.self)
+    (sym (tagged_is c.args.end c.in-Thrown.v c.in-Thrown.tag c.in-Some.tag c.in-Thrown.is c.in-Some.is)) c.catch_thrown.ensures.played
+
+pub catch_thrown-returns-in_err-found-clause-played : goal.catch_thrown-returns-in_err-found-clause-played
+catch_thrown-returns-in_err-found-clause-played g t c =
+    let p = err_from_is_err_and c.from_residual.result c.from_residual.ensures.1 in
+    let w = c.in_err-found.ensures.played (2 ^ 64) (omega arith) in
+    subst (λ z. Played found_tree (sized_row (catch_tagged (plain c.args.pattern.now) (Thrown (plain c.args.v) (Some (plain c.args.tag))))) c.args.self.now z c.matches.new.self) (sym (p.1 ∙ ap Err p.2))
+    (thrown_stops (plain c.args.pattern.now) (plain c.args.v) (plain c.args.tag) c.args.self.now c.in_err-found.field-0.0 c.matches.new.self w)
+
+pub catch_thrown-returns-then-found-clause-played : goal.catch_thrown-returns-then-found-clause-played
+catch_thrown-returns-then-found-clause-played g t c =
+    let w = c.in_ok-found.ensures.played (2 ^ 64) (omega arith) in
+    thrown_caught (plain c.args.pattern.now) c.args.v c.args.tag c.args.self.now c.matches.new.self c.in_ok-found.found w.0 c.if-found.true c.weight-weight.ensures.fits (later w.0 _ c.requires.value)
+
+pub catch_thrown-returns-clause-played : goal.catch_thrown-returns-clause-played
+catch_thrown-returns-clause-played g t c =
+    let w = c.in_ok-found.ensures.played (2 ^ 64) (omega arith) in
+    thrown_on (plain c.args.pattern.now) c.args.v c.args.tag c.args.self.now c.matches.new.self c.in_ok-found.found w.0 c.if-found.false (later w.0 _ c.requires.value) (later w.0 _ c.requires.tag)
+
+pub built_in-returns-clause-played : goal.built_in-returns-clause-played
+built_in-returns-clause-played g t c =
+    let es = c.in-Node.args.now in
+    let h = plain c.in-Node.head.now in
+    let q = ap (λ us. node h us) (sym (plains_trees es)) ∙ c.in-Node.ensures.plain in
+    subst (λ p. Played found_tree p c.args.self.now c.function_row.result c.function_row.new.self) (sym (built_in-function h (trees es) (plain c.args.form.now) q (no_symbol _ _ _ c.view-2.ensures.all c.in_default-view.not-Symbol)))
+    c.function_row.ensures.played
+
+pub other_row-returns-in-Throw-clause-played : goal.other_row-returns-in-Throw-clause-played
+other_row-returns-in-Throw-clause-played g t c = subst (λ z. Played found_tree (sized_row (kinds.row_by z (trees c.args.args.now))) c.args.self.now c.throw_row.result c.args.self.now) (sym c.in-Throw.is) (c.throw_row.ensures c.args.self.now c.requires.args)
+
+pub other_row-returns-in-Catch-clause-played : goal.other_row-returns-in-Catch-clause-played
+other_row-returns-in-Catch-clause-played g t c = subst (λ z. Played found_tree (sized_row (kinds.row_by z (trees c.args.args.now))) c.args.self.now c.catch_row.result c.catch_row.new.self) (sym c.in-Catch.is) c.catch_row.ensures.played
+
+pub other_row-returns-in-Abort-clause-played : goal.other_row-returns-in-Abort-clause-played
+other_row-returns-in-Abort-clause-played g t c = subst (λ z. Played found_tree (sized_row (kinds.row_by z (trees c.args.args.now))) c.args.self.now c.abort_row.result c.args.self.now) (sym c.in-Abort.is) (c.abort_row.ensures c.args.self.now)
+
+pub other_row-returns-in-CheckAbort-clause-played : goal.other_row-returns-in-CheckAbort-clause-played
+other_row-returns-in-CheckAbort-clause-played g t c = subst (λ z. Played found_tree (sized_row (kinds.row_by z (trees c.args.args.now))) c.args.self.now c.check_abort_row.result c.check_abort_row.new.self) (sym c.in-CheckAbort.is) c.check_abort_row.ensures.played
+
+pub other_row-returns-in-Break-clause-played : goal.other_row-returns-in-Break-clause-played
+other_row-returns-in-Break-clause-played g t c = subst (λ z. Played found_tree (sized_row (kinds.row_by z (trees c.args.args.now))) c.args.self.now c.break_row.result c.args.self.now) (sym c.in-Break.is) (c.break_row.ensures c.args.self.now)
+
+pub other_row-returns-in-Continue-clause-played : goal.other_row-returns-in-Continue-clause-played
+other_row-returns-in-Continue-clause-played g t c = subst (λ z. Played found_tree (sized_row (kinds.row_by z (trees c.args.args.now))) c.args.self.now c.continue_row.result c.args.self.now) (sym c.in-Continue.is) (c.continue_row.ensures c.args.self.now)
+
+pub other_row-returns-in-Quiet-clause-played : goal.other_row-returns-in-Quiet-clause-played
+other_row-returns-in-Quiet-clause-played g t c = subst (λ z. Played found_tree (sized_row (kinds.row_by z (trees c.args.args.now))) c.args.self.now c.quiet_row.result c.quiet_row.new.self) (sym c.in-Quiet.is) c.quiet_row.ensures.played
+
+pub other_row-returns-in-Check-clause-played : goal.other_row-returns-in-Check-clause-played
+other_row-returns-in-Check-clause-played g t c = subst (λ z. Played found_tree (sized_row (kinds.row_by z (trees c.args.args.now))) c.args.self.now c.check_row.result c.check_row.new.self) (sym c.in-Check.is) c.check_row.ensures.played
+
+-- ---- a rule that matches nothing but itself
+
+-- ---- left sides
+
+pub evaluated_core-returns-in_default-clause-played : goal.evaluated_core-returns-in_default-clause-played
+evaluated_core-returns-in_default-clause-played g t c =
+    leaf_core c.args.core.now c.in_ok-copy.field-0 c.args.self.now (no_node _ _ _ c.view.ensures.all c.in_default.not-Node) c.in_ok-copy.ensures c.requires.honest
+
+pub evaluated_core-evaluated_core-requires : goal.evaluated_core-evaluated_core-requires
+evaluated_core-evaluated_core-requires g t c κs within =
+    let d = head_depth (plain c.in-Node.head.now) (plain c.args.core.now) c.in-Node.args.now c.in-Node.ensures.plain in
+    (omega (arith, d), (within, (c.requires.sound, head_honest c.args.self.now.store _ c.in-Node.head.now c.in-Node.args.now c.args.core.now c.in-Node.ensures.all c.requires.honest)))
+
+pub evaluated_core-returns-in_err-made-clause-played : goal.evaluated_core-returns-in_err-made-clause-played
+evaluated_core-returns-in_err-made-clause-played g t c =
+    head_stop (plain c.in-Node.head.now) (plain c.args.core.now) c.in-Node.args.now c.args.self.now c.evaluated_core.new.self c.from_residual-in_err-made.result _ c.in-Node.ensures.plain c.from_residual-in_err-made.ensures.1 c.in_err-made.ensures.played
+
+pub evaluated_core-attributes_of_made-requires : goal.evaluated_core-attributes_of_made-requires
+evaluated_core-attributes_of_made-requires g t c = record { sound = c.in_ok-made.ensures.played.1.sound c.requires.sound }
+
+pub evaluated_core-elements-requires : goal.evaluated_core-elements-requires
+evaluated_core-elements-requires g t c κs within =
+    let m = c.in_ok-made.ensures.played in
+    let w = c.in_ok-attributes.ensures.played m.0 m.2 in
+    let es = c.in-Node.args.now in (
+      omega (arith, c.in_ok-made.ensures.falls, c.in_ok-attributes.ensures.kept),
+      (within, (w.sound (m.1.sound c.requires.sound), all_later w es (all_later m.1 es (args_honest c.args.self.now.store _ c.in-Node.head.now es c.args.core.now c.in-Node.ensures.all c.requires.honest)))),
+    )
+
+pub evaluated_core-returns-in_err-values-clause-played : goal.evaluated_core-returns-in_err-values-clause-played
+evaluated_core-returns-in_err-values-clause-played g t c =
+    let m = c.in_ok-made.ensures.played in
+    values_stop (plain c.in-Node.head.now) (plain c.args.core.now) c.in-Node.args.now c.in_ok-attributes.attributes c.args.self.now c.evaluated_core.new.self c.attributes_of_made.new.self c.elements.new.self m.0 c.from_residual-in_err-values.result _ c.in-Node.ensures.plain m.1 (c.in_ok-attributes.ensures.played m.0 m.2)
+    c.from_residual-in_err-values.ensures.1 c.in_err-values.ensures.played
+
+pub evaluated_core-returns-clause-played : goal.evaluated_core-returns-clause-played
+evaluated_core-returns-clause-played g t c =
+    let m = c.in_ok-made.ensures.played in
+    let w = c.in_ok-attributes.ensures.played m.0 m.2 in
+    let x = c.in_ok-values.ensures.played in
+    core_done (plain c.in-Node.head.now) (plain c.args.core.now) c.in-Node.args.now c.in_ok-values.values.items c.in_ok-attributes.attributes c.args.self.now c.evaluated_core.new.self c.attributes_of_made.new.self c.elements.new.self m.0 c.in_ok-core_made.field-0 c.in-Node.ensures.plain m.1 w x.0
+    (subst (λ zs. Stands (applied m.0 (without_sequences c.in_ok-attributes.attributes (trees zs))) c.in_ok-core_made.field-0) c.as_slice.ensures.value (c.in_ok-core_made.ensures.made m.0 m.2))
+    (c.in_ok-core_made.ensures.honest c.elements.new.self.store (option_later x.0 _ (option_later w _ m.3)) (subst (AllHonest c.elements.new.self) (sym c.as_slice.ensures.value) x.1.0))
+
+pub core_of-returns-then-found-clause-played : goal.core_of-returns-then-found-clause-played
+core_of-returns-then-found-clause-played g t c =
+    let k = c.args.self.now in
+    let l = c.args.left.now in
+    let e = c.in_ok-copy.field-0 in
+    held_made (plain l) e k (sym c.core-found.ensures.held ∙ c.if-found.true) (ap plain c.in_ok-copy.ensures ∙ c.core-found.ensures.core)
+    (subst (Honest k) (sym c.in_ok-copy.ensures) (passed_honest k.store l _ c.core-found.ensures.passed c.requires.honest))
+
+pub core_of-evaluated_core-requires : goal.core_of-evaluated_core-requires
+core_of-evaluated_core-requires g t c κs within =
+    (omega (arith, c.depth-depth.ensures.fits.shallow), (within, (c.requires.sound, passed_honest c.args.self.now.store c.args.left.now _ c.core-found.ensures.passed c.requires.honest)))
+
+pub core_of-returns-clause-played : goal.core_of-returns-clause-played
+core_of-returns-clause-played g t c =
+    open_made (plain c.args.left.now) (plain c.core-found.result.core.now) _ _ _ (sym c.core-found.ensures.held ∙ c.if-found.false) c.core-found.ensures.core c.evaluated_core.ensures.played
+
+pub prepared-returns-in_err-core-clause-played : goal.prepared-returns-in_err-core-clause-played
+prepared-returns-in_err-core-clause-played g t c =
+    prepared_stop (option_map (λ e. plain e.now) c.args.condition) (plain c.args.left.now) c.args.self.now _ _ _ c.from_residual.ensures.1 c.in_err-core.ensures.played
+
+pub prepared-unreachable-requires : goal.prepared-unreachable-requires
+prepared-unreachable-requires g t c =
+    let some = made_is (λ _. is_some c.in_ok-core.core ≡ true) c.put_back-made.result c.in_ok-left.left c.in_ok-left.ensures.made c.put_back-made.ensures.some in
+    true≢false (sym some ∙ ap is_some c.in_default.is)
+
+pub prepared-returns-in_err-left-clause-played : goal.prepared-returns-in_err-left-clause-played
+prepared-returns-in_err-left-clause-played g t c =
+    let o = option_map (λ e. plain e.now) c.args.condition in
+    let l = plain c.args.left.now in
+    let m = c.in_ok-core.ensures.played in
+    unsized_stop o l c.args.self.now m.0 _ m.1 _ _ _ c.from_residual-in_err-left.ensures.1 (c.in_err-left.ensures.played (with_core (under o l) m.0) (c.put_back-made.ensures.made m.0 m.2))
+
+pub prepared-returns-clause-played : goal.prepared-returns-clause-played
+prepared-returns-clause-played g t c =
+    let o = option_map (λ e. plain e.now) c.args.condition in
+    let l = c.args.left.now in
+    let k = c.args.self.now in
+    let k1 = c.core_of.new.self in
+    let m = c.in_ok-core.ensures.played in
+    let f = c.in_ok-left.ensures.played (with_core (under o (plain l)) m.0) (c.put_back-made.ensures.made m.0 m.2) in
+    let s = subst (Stands m.0) c.in-Some.is m.2 in
+    let h = made_is (Honest k1) _ c.in_ok-left.left c.in_ok-left.ensures.made (c.put_back-made.ensures.honest k1.store (later m.1 _ c.requires.honest) (condition_later m.1 c.args.condition c.requires.condition) m.3) in
+    (sides_given o (plain l) k m.0 k1 m.1 c.in_ok-left.left c.in-Some.core c.fitted.new.self f.0 f.1 s, later f.0 _ h)
+
+pub prepared-returns-clause-left : goal.prepared-returns-clause-left
+prepared-returns-clause-left g t c =
+    let o = option_map (λ e. plain e.now) c.args.condition in
+    let l = plain c.args.left.now in
+    let m = c.in_ok-core.ensures.played in
+    let f = c.in_ok-left.ensures.played (with_core (under o l) m.0) (c.put_back-made.ensures.made m.0 m.2) in
+    f.1 ∙ ap (with_core (under o l)) (sym (subst (Stands m.0) c.in-Some.is m.2))
+
+-- ---- definitions
+
+pub define-prepared-requires : goal.define-prepared-requires
+define-prepared-requires g t c κs within = (search rules, (within, (c.requires.sound, (c.requires.left, c.moved.ensures.condition c.args.self.now.store c.requires.value))))
+
+pub define-returns-in_err-sides-clause-played : goal.define-returns-in_err-sides-clause-played
+define-returns-in_err-sides-clause-played g t c =
+    let l = plain c.args.left.now in
+    define_stop c.args.immediate l (plain c.args.value.now) _ c.args.self.now c.prepared.new.self c.from_residual.result _ (c.moved.ensures.moved l) c.from_residual.ensures.1 c.in_err-sides.ensures.played
+
+pub define-define_target-requires : goal.define-define_target-requires
+define-define_target-requires g t c =
+    let m = c.in_ok-sides.ensures.played in
+    record {
+      sound = m.0.sound c.requires.sound;
+      left = m.1;
+      body = later m.0 _ (c.moved.ensures.body c.args.self.now.store c.requires.value);
+      unmoved = λ x e. c.moved.ensures.stays (no_condition _ _ _ _ _ x c.in_ok-sides.ensures.left e);
+    }
+
+pub define-returns-clause-played : goal.define-returns-clause-played
+define-returns-clause-played g t c =
+    let l = plain c.args.left.now in
+    let v = plain c.args.value.now in (
+      subst (λ p. Plays p c.args.self.now (Ok c.in_ok-define_target.field-0) c.define_target.new.self false) (sym (define_sides c.args.immediate l v _ (c.moved.ensures.moved l)))
+          (plays_bind _ _ c.in_ok-sides.ensures.played.0 c.in_ok-define_target.ensures.played),
+      tt,
+    )
+
+pub define_up-prepared-requires : goal.define_up-prepared-requires
+define_up-prepared-requires g t c κs within = (search rules, (within, (c.requires.sound, (c.requires.left, c.moved.ensures.condition c.args.self.now.store c.requires.value))))
+
+pub define_up-returns-in_err-sides-clause-played : goal.define_up-returns-in_err-sides-clause-played
+define_up-returns-in_err-sides-clause-played g t c =
+    let l = plain c.args.left.now in
+    let v = plain c.args.value.now in
+    subst (λ p. Played itself p c.args.self.now c.from_residual.result c.prepared.new.self) (sym (define_up_sides l v _ (c.moved.ensures.moved l)))
+    (exit prepared_side itself _ _ _ _ _ _ c.from_residual.ensures.1 c.in_err-sides.ensures.played)
+
+pub define_up-define_up_target-requires : goal.define_up-define_up_target-requires
+define_up-define_up_target-requires g t c =
+    let m = c.in_ok-sides.ensures.played in
+    record { sound = m.0.sound c.requires.sound; left = m.1; body = later m.0 _ (c.moved.ensures.body c.args.self.now.store c.requires.value) }
+
+pub define_up-returns-clause-played : goal.define_up-returns-clause-played
+define_up-returns-clause-played g t c =
+    let l = plain c.args.left.now in
+    let v = plain c.args.value.now in (
+      subst (λ p. Plays p c.args.self.now (Ok c.in_ok-define_up_target.field-0) c.define_up_target.new.self false) (sym (define_up_sides l v _ (c.moved.ensures.moved l)))
+          (plays_bind _ _ c.in_ok-sides.ensures.played.0 c.in_ok-define_up_target.ensures.played),
+      tt,
+    )
+
+pub define_tagged-prepared-requires : goal.define_tagged-prepared-requires
+define_tagged-prepared-requires g t c κs within = (search rules, (within, (c.requires.1.1.1.0, (c.requires.1.1.1.1.1.0, c.moved.ensures.condition c.args.self.now.store c.requires.1.1.1.1.1.1))))
+
+pub define_tagged-returns-in_err-sides-clause-played : goal.define_tagged-returns-in_err-sides-clause-played
+define_tagged-returns-in_err-sides-clause-played g t c =
+    let l = plain c.args.left.now in
+    let v = plain c.args.value.now in
+    subst (λ p. Played itself p c.args.self.now c.from_residual.result c.prepared.new.self) (sym (define_tagged_sides c.args.name.now l v _ (c.moved.ensures.moved l)))
+    (exit prepared_side itself _ _ _ _ _ _ c.from_residual.ensures.1 c.in_err-sides.ensures.played)
+
+pub define_tagged-define_tagged_by-requires : goal.define_tagged-define_tagged_by-requires
+define_tagged-define_tagged_by-requires g t c =
+    let m = c.in_ok-sides.ensures.played in
+    record { sound = m.0.sound c.requires.1.1.1.0; name = c.requires.1.1.1.1.0; left = m.1; body = later m.0 _ (c.moved.ensures.body c.args.self.now.store c.requires.1.1.1.1.1.1) }
+
+pub define_tagged-returns-clause-played : goal.define_tagged-returns-clause-played
+define_tagged-returns-clause-played g t c =
+    let l = plain c.args.left.now in
+    let v = plain c.args.value.now in (
+      subst (λ p. Plays p c.args.self.now (Ok c.in_ok-define_tagged_by.field-0) c.define_tagged_by.new.self false) (sym (define_tagged_sides c.args.name.now l v _ (c.moved.ensures.moved l)))
+          (plays_bind _ _ c.in_ok-sides.ensures.played.0 c.in_ok-define_tagged_by.ensures.played),
+      tt,
+    )
+
+-- ---- the rows that define
+
+pub set_row-returns-in_default-clause-played : goal.set_row-returns-in_default-clause-played
+set_row-returns-in_default-clause-played g t c = row_stays _ _ (set_row-by (trees c.args.args.now) ∙ ap (by set_both) (sym c.in_default.ensures.value))
+
+pub set_row-set-requires : goal.set_row-set-requires
+set_row-set-requires g t c κs within =
+    (omega (arith, c.depth-depth.ensures.fits.shallow), (within, (c.requires.sound, c.in-Some.ensures.honest c.args.self.now.store c.requires.args)))
+
+pub set_row-returns-in_err-set-clause-played : goal.set_row-returns-in_err-set-clause-played
+set_row-returns-in_err-set-clause-played g t c =
+    read_some set_both _ _ (set_row-by (trees c.args.args.now)) c.args.self.now _ _ _ (sym c.in-Some.ensures.value) (row_exit itself _ _ _ _ _ _ c.from_residual.ensures.1 c.in_err-set.ensures.played)
+
+pub set_row-returns-clause-played : goal.set_row-returns-clause-played
+set_row-returns-clause-played g t c =
+    let k = c.args.self.now in
+    let es = trees c.args.args.now in
+    let v = c.in-Some.value.now in
+    let h = c.in_ok-set.ensures.played.0 in
+    subst (λ z. Played found_tree (sized_row (definitions.set_row es)) k (Ok (Some z)) c.set.new.self) (sym c.in_ok-copy.ensures)
+    (read_some set_both _ _ (set_row-by es) k _ (Ok (Some v)) _ (sym c.in-Some.ensures.value) (row_gives _ _ _ v (plays_bind _ _ h plays_done) ((fits_decides (plain v)).1 c.weight-weight.ensures.fits) (later h _ (c.in-Some.ensures.honest k.store c.requires.args).1)))
+
+pub set_delayed_row-returns-in_default-clause-played : goal.set_delayed_row-returns-in_default-clause-played
+set_delayed_row-returns-in_default-clause-played g t c = row_stays _ _ (set_delayed_row-by (trees c.args.args.now) ∙ ap (by delay_both) (sym c.in_default.ensures.value))
+
+pub set_delayed_row-define-requires : goal.set_delayed_row-define-requires
+set_delayed_row-define-requires g t c κs within = (search rules, (within, (c.requires.sound, c.in-Some.ensures.honest c.args.self.now.store c.requires.args)))
+
+pub set_delayed_row-returns-in_err-is_refused-clause-played : goal.set_delayed_row-returns-in_err-is_refused-clause-played
+set_delayed_row-returns-in_err-is_refused-clause-played g t c =
+    read_some delay_both _ _ (set_delayed_row-by (trees c.args.args.now)) c.args.self.now _ _ _ (sym c.in-Some.ensures.value) (row_exit itself _ _ _ _ _ _ c.from_residual.ensures.1 c.in_err-is_refused.ensures.played)
+
+pub set_delayed_row-returns-clause-played : goal.set_delayed_row-returns-clause-played
+set_delayed_row-returns-clause-played g t c =
+    let p = definitions.define false (plain c.in-Some.left.now) (plain c.in-Some.value.now) in
+    read_some delay_both _ _ (set_delayed_row-by (trees c.args.args.now)) c.args.self.now _ (Ok (Some c.in_ok-refusal.field-0)) c.define.new.self (sym c.in-Some.ensures.value)
+    (row_refusal p c.in_ok-is_refused.is_refused c.args.self.now c.define.new.self c.in_ok-refusal.field-0 c.in_ok-refusal.ensures c.in_ok-is_refused.ensures.played.0)
+
+pub unset_row-returns-in_default-clause-played : goal.unset_row-returns-in_default-clause-played
+unset_row-returns-in_default-clause-played g t c = row_stays _ _ (unset_row-by (trees c.args.args.now) ∙ ap (by unset_one) (sym c.in_default.ensures.value))
+
+pub unset_row-prepared-requires : goal.unset_row-prepared-requires
+unset_row-prepared-requires g t c κs within = (search rules, (within, (c.requires.sound, (c.in-Some.ensures.honest c.args.self.now.store c.requires.args, tt))))
+
+pub unset_row-returns-in_err-sides-clause-played : goal.unset_row-returns-in_err-sides-clause-played
+unset_row-returns-in_err-sides-clause-played g t c =
+    read_some unset_one _ _ (unset_row-by (trees c.args.args.now)) c.args.self.now _ _ _ (sym c.in-Some.ensures.value) (row_exit prepared_side _ _ _ _ _ _ c.from_residual.ensures.1 c.in_err-sides.ensures.played)
+
+pub unset_row-unset_target-requires : goal.unset_row-unset_target-requires
+unset_row-unset_target-requires g t c = record { sound = c.in_ok-sides.ensures.played.0.sound c.requires.sound }
+
+pub unset_row-returns-clause-played : goal.unset_row-returns-clause-played
+unset_row-returns-clause-played g t c =
+    let l = plain c.in-Some.left.now in
+    let e = c.in_ok-refusal.field-0 in
+    let k = c.args.self.now in
+    let k2 = c.unset_target.new.self in
+    read_some unset_one _ _ (unset_row-by (trees c.args.args.now)) k _ (Ok (Some e)) k2 (sym c.in-Some.ensures.value)
+    (row_taken (unset_one l) c.in_ok-is_taken.is_taken k k2 e c.in_ok-refusal.ensures (unset_plays l _ _ k c.prepared.new.self k2 c.in_ok-sides.ensures.played.0 c.in_ok-is_taken.ensures.played))
+
+-- ---- the rows that define by tags
+
+pub up_set_row-returns-in_default-clause-played : goal.up_set_row-returns-in_default-clause-played
+up_set_row-returns-in_default-clause-played g t c = row_stays _ _ (up_set_row-by (trees c.args.args.now) ∙ ap (by up_both) (sym c.in_default.ensures.value))
+
+pub up_set_row-define_up-requires : goal.up_set_row-define_up-requires
+up_set_row-define_up-requires g t c κs within = (search rules, (within, (c.requires.sound, c.in-Some.ensures.honest c.args.self.now.store c.requires.args)))
+
+pub up_set_row-returns-in_err-_refused-clause-played : goal.up_set_row-returns-in_err-_refused-clause-played
+up_set_row-returns-in_err-_refused-clause-played g t c =
+    read_some up_both _ _ (up_set_row-by (trees c.args.args.now)) c.args.self.now _ _ _ (sym c.in-Some.ensures.value) (row_exit itself _ _ _ _ _ _ c.from_residual.ensures.1 c.in_err-_refused.ensures.played)
+
+pub up_set_row-returns-clause-played : goal.up_set_row-returns-clause-played
+up_set_row-returns-clause-played g t c =
+    let k = c.args.self.now in
+    let es = trees c.args.args.now in
+    let v = c.in-Some.value.now in
+    let h = c.in_ok-_refused.ensures.played.0 in
+    subst (λ z. Played found_tree (sized_row (definitions.up_set_row es)) k (Ok (Some z)) c.define_up.new.self) (sym c.in_ok-copy.ensures)
+    (read_some up_both _ _ (up_set_row-by es) k _ (Ok (Some v)) _ (sym c.in-Some.ensures.value) (row_gives _ _ _ v (plays_bind _ _ h plays_done) ((fits_decides (plain v)).1 c.weight-weight.ensures.fits) (later h _ (c.in-Some.ensures.honest k.store c.requires.args).1)))
+
+pub up_set_delayed_row-returns-in_default-clause-played : goal.up_set_delayed_row-returns-in_default-clause-played
+up_set_delayed_row-returns-in_default-clause-played g t c = row_stays _ _ (up_set_delayed_row-by (trees c.args.args.now) ∙ ap (by up_delay_both) (sym c.in_default.ensures.value))
+
+pub up_set_delayed_row-define_up-requires : goal.up_set_delayed_row-define_up-requires
+up_set_delayed_row-define_up-requires g t c κs within = (search rules, (within, (c.requires.sound, c.in-Some.ensures.honest c.args.self.now.store c.requires.args)))
+
+pub up_set_delayed_row-returns-in_err-is_refused-clause-played : goal.up_set_delayed_row-returns-in_err-is_refused-clause-played
+up_set_delayed_row-returns-in_err-is_refused-clause-played g t c =
+    read_some up_delay_both _ _ (up_set_delayed_row-by (trees c.args.args.now)) c.args.self.now _ _ _ (sym c.in-Some.ensures.value) (row_exit itself _ _ _ _ _ _ c.from_residual.ensures.1 c.in_err-is_refused.ensures.played)
+
+pub up_set_delayed_row-returns-clause-played : goal.up_set_delayed_row-returns-clause-played
+up_set_delayed_row-returns-clause-played g t c =
+    read_some up_delay_both _ _ (up_set_delayed_row-by (trees c.args.args.now)) c.args.self.now _ (Ok (Some c.in_ok-refusal.field-0)) c.define_up.new.self (sym c.in-Some.ensures.value) (row_refusal _ c.in_ok-is_refused.is_refused _ _ c.in_ok-refusal.field-0 c.in_ok-refusal.ensures c.in_ok-is_refused.ensures.played.0)
+
+pub tag_set_row-returns-in_default-clause-played : goal.tag_set_row-returns-in_default-clause-played
+tag_set_row-returns-in_default-clause-played g t c = row_stays _ _ (tag_set_row-by (trees c.args.args.now) ∙ ap (by tag_three) (sym c.in_default.ensures.value))
+
+pub tag_set_row-value_of-requires : goal.tag_set_row-value_of-requires
+tag_set_row-value_of-requires g t c κs within = (search rules, (within, (c.requires.sound, (c.in-Some.ensures.honest c.args.self.now.store c.requires.args).1)))
+
+pub tag_set_row-returns-in_err-value-clause-played : goal.tag_set_row-returns-in_err-value-clause-played
+tag_set_row-returns-in_err-value-clause-played g t c =
+    read_some tag_three _ _ (tag_set_row-by (trees c.args.args.now)) c.args.self.now _ _ _ (sym c.in-Some.ensures.value) (row_exit value _ _ _ _ _ _ c.from_residual.ensures.1 c.in_err-value.ensures.played)
+
+pub tag_set_row-define_tagged-requires : goal.tag_set_row-define_tagged-requires
+tag_set_row-define_tagged-requires g t c κs within =
+    let h = c.in-Some.ensures.honest c.args.self.now.store c.requires.args in
+    let v = c.in_ok-value.ensures.played in
+    (search rules, (within, (v.0.sound c.requires.sound, (c.in-Some.ensures.name, (later v.0 _ h.0, v.1.0)))))
+
+pub tag_set_row-returns-in_err-_refused-clause-played : goal.tag_set_row-returns-in_err-_refused-clause-played
+tag_set_row-returns-in_err-_refused-clause-played g t c =
+    read_some tag_three _ _ (tag_set_row-by (trees c.args.args.now)) c.args.self.now _ _ _ (sym c.in-Some.ensures.value)
+    (tag_stop c.in-Some.name.now (plain c.in-Some.left.now) (plain c.in-Some.value.now) c.args.self.now (plain c.in_ok-value.value) _ _ _ _ c.from_residual-in_err-_refused.ensures.1 c.in_ok-value.ensures.played.0 c.in_err-_refused.ensures.played)
+
+pub tag_set_row-returns-clause-played : goal.tag_set_row-returns-clause-played
+tag_set_row-returns-clause-played g t c =
+    let v = c.in_ok-value.ensures.played in
+    let e = c.in_ok-value.value in
+    let h = c.in_ok-_refused.ensures.played.0 in
+    read_some tag_three _ _ (tag_set_row-by (trees c.args.args.now)) c.args.self.now _ (Ok (Some e)) c.define_tagged.new.self (sym c.in-Some.ensures.value)
+    (tag_given c.in-Some.name.now (plain c.in-Some.left.now) (plain c.in-Some.value.now) c.args.self.now e c.in_ok-_refused._refused _ _ v.0 h ((fits_decides (plain e)).1 c.weight-weight.ensures.fits) (later h _ v.1.0))
+
+pub tag_set_delayed_row-returns-in_default-clause-played : goal.tag_set_delayed_row-returns-in_default-clause-played
+tag_set_delayed_row-returns-in_default-clause-played g t c = row_stays _ _ (tag_set_delayed_row-by (trees c.args.args.now) ∙ ap (by tag_delay_three) (sym c.in_default.ensures.value))
+
+pub tag_set_delayed_row-define_tagged-requires : goal.tag_set_delayed_row-define_tagged-requires
+tag_set_delayed_row-define_tagged-requires g t c κs within =
+    (search rules, (within, (c.requires.sound, (c.in-Some.ensures.name, c.in-Some.ensures.honest c.args.self.now.store c.requires.args))))
+
+pub tag_set_delayed_row-returns-in_err-is_refused-clause-played : goal.tag_set_delayed_row-returns-in_err-is_refused-clause-played
+tag_set_delayed_row-returns-in_err-is_refused-clause-played g t c =
+    read_some tag_delay_three _ _ (tag_set_delayed_row-by (trees c.args.args.now)) c.args.self.now _ _ _ (sym c.in-Some.ensures.value) (row_exit itself _ _ _ _ _ _ c.from_residual.ensures.1 c.in_err-is_refused.ensures.played)
+
+pub tag_set_delayed_row-returns-clause-played : goal.tag_set_delayed_row-returns-clause-played
+tag_set_delayed_row-returns-clause-played g t c =
+    read_some tag_delay_three _ _ (tag_set_delayed_row-by (trees c.args.args.now)) c.args.self.now _ (Ok (Some c.in_ok-refusal.field-0)) c.define_tagged.new.self (sym c.in-Some.ensures.value) (row_refusal _ c.in_ok-is_refused.is_refused _ _ c.in_ok-refusal.field-0 c.in_ok-refusal.ensures c.in_ok-is_refused.ensures.played.0)
+
+pub tag_unset_row-returns-in_default-clause-played : goal.tag_unset_row-returns-in_default-clause-played
+tag_unset_row-returns-in_default-clause-played g t c = row_stays _ _ (tag_unset_row-by (trees c.args.args.now) ∙ ap (by tag_unset) (sym c.in_default.ensures.value))
+
+pub tag_unset_row-prepared-requires : goal.tag_unset_row-prepared-requires
+tag_unset_row-prepared-requires g t c κs within = (search rules, (within, (c.requires.sound, (c.in-Some.ensures.honest c.args.self.now.store c.requires.args, tt))))
+
+pub tag_unset_row-returns-in_err-sides-clause-played : goal.tag_unset_row-returns-in_err-sides-clause-played
+tag_unset_row-returns-in_err-sides-clause-played g t c =
+    read_some tag_unset _ _ (tag_unset_row-by (trees c.args.args.now)) c.args.self.now _ _ _ (sym c.in-Some.ensures.value) (row_exit prepared_side _ _ _ _ _ _ c.from_residual.ensures.1 c.in_err-sides.ensures.played)
+
+pub tag_unset_row-unset_tagged-requires : goal.tag_unset_row-unset_tagged-requires
+tag_unset_row-unset_tagged-requires g t c = record { sound = c.in_ok-sides.ensures.played.0.sound c.requires.sound; name = c.in-Some.ensures.name }
+
+pub tag_unset_row-returns-clause-played : goal.tag_unset_row-returns-clause-played
+tag_unset_row-returns-clause-played g t c =
+    read_some tag_unset _ _ (tag_unset_row-by (trees c.args.args.now)) c.args.self.now _ (Ok (Some c.in_ok-refusal.field-0)) c.unset_tagged.new.self (sym c.in-Some.ensures.value)
+    (unset_given c.in-Some.name.now (plain c.in-Some.left.now) _ c.in_ok-is_taken.is_taken _ _ _ c.in_ok-refusal.field-0 c.in_ok-refusal.ensures c.in_ok-sides.ensures.played.0 c.in_ok-is_taken.ensures.played)
+
+-- ---- left sides that are set
+
+pub set_one-set_message-requires : goal.set_one-set_message-requires
+set_one-set_message-requires g t c = record { sound = c.requires.sound; name = c.in-Some.ensures.name; value = c.in-Some.ensures.value }
+
+pub set_one-returns-clause-played : goal.set_one-returns-clause-played
+set_one-returns-clause-played g t c =
+    let k = c.args.self.now in
+    let k1 = c.set_message.new.self in
+    (subst (λ p. Plays p k (Ok tt) k1 false) (sym (text_set (plain c.args.left.now) (plain c.args.value.now) _ c.in-Some.text.now c.in-Some.ensures.text)) c.in_ok-set_message.ensures.played, tt)
+
+pub set_one-define-requires : goal.set_one-define-requires
+set_one-define-requires g t c κs within = (omega arith, (within, (c.requires.sound, (c.requires.left, c.requires.value))))
+
+pub set_one-returns-in_err-_refused-clause-played : goal.set_one-returns-in_err-_refused-clause-played
+set_one-returns-in_err-_refused-clause-played g t c =
+    plain_stop (plain c.args.left.now) (plain c.args.value.now) c.args.self.now c.define.new.self c.from_residual.result _ c.in_default.ensures.text c.from_residual.ensures.1 c.in_err-_refused.ensures.played
+
+pub set_one-returns-in_default-clause-played : goal.set_one-returns-in_default-clause-played
+set_one-returns-in_default-clause-played g t c =
+    (plain_done (plain c.args.left.now) (plain c.args.value.now) c.args.self.now c.define.new.self c.in_ok-_refused._refused c.in_default.ensures.text c.in_ok-_refused.ensures.played.0, tt)
+
+pub set-returns-in_default-clause-played : goal.set-returns-in_default-clause-played
+set-returns-in_default-clause-played g t c =
+    subst (λ p. Played itself p c.args.self.now c.set_one.result c.set_one.new.self) (sym (set_single (plain c.args.left.now) (plain c.args.value.now) c.in_default.ensures.value)) c.set_one.ensures.played
+
+pub set-returns-in_default-same_shape-clause-played : goal.set-returns-in_default-same_shape-clause-played
+set-returns-in_default-same_shape-clause-played g t c =
+    let l = plain c.args.left.now in
+    let v = plain c.args.value.now in
+    (subst (λ p. Plays p c.args.self.now (Ok tt) c.tell_shape.new.self false) (sym (set_shape l v c.in-Some.lefts.now None c.in-Some.ensures.value c.in_default-same_shape.ensures.value)) c.in_ok-tell_shape.ensures.played, tt)
+
+pub set-loop-i-init : goal.set-loop-i-init
+set-loop-i-init g t c =
+    let k = c.args.self.now in
+    let l = plain c.args.left.now in
+    let v = plain c.args.value.now in
+    let values = c.in-Some-same_shape.values.now in
+    record {
+      leads = λ r k2 o h. subst (λ p. Plays p k r k2 o) (sym (set_shape l v c.in-Some.lefts.now (Some (trees values)) c.in-Some.ensures.value c.in-Some-same_shape.ensures.value)) h;
+      sound = c.requires.sound;
+      lefts = c.in-Some.ensures.honest k.store c.requires.left;
+      values = c.in-Some-same_shape.ensures.honest k.store c.requires.value;
+      falls = omega arith;
+      ticks = refl;
+    }
+
+pub set-set-requires : goal.set-set-requires
+set-set-requires g t c κs within =
+    let l = c.loop-i in
+    let lefts = c.in-Some.lefts.now in
+    let values = c.in-Some-same_shape.values.now in
+    let x = c.index-lefts-i.result in
+    let d = element_depth lefts l.i x (omega arith) c.index-lefts-i.is in
+    let p = ap depths (plains_trees lefts) in (
+      omega (arith, d, p, c.in-Some.ensures.falls, l.invariant.falls),
+      (within, (l.invariant.sound, (subst (Honest l.self) (sym c.index-lefts-i.is) (l.invariant.lefts l.i x (omega arith)), subst (Honest l.self) (sym c.index-values-i.is) (l.invariant.values l.i c.index-values-i.result (omega (arith, c.in-Some-same_shape.ensures.count)))))),
+    )
+
+pub set-returns-in_err-set-clause-played : goal.set-returns-in_err-set-clause-played
+set-returns-in_err-set-clause-played g t c =
+    let l = c.loop-i in
+    leads_out itself itself _ _ _ _ _ _ _ _ _ l.invariant.leads
+    (set_at c.in-Some.lefts.now c.in-Some-same_shape.values.now l.i c.index-lefts-i.result c.index-values-i.result (omega arith) c.in-Some-same_shape.ensures.count c.index-lefts-i.is c.index-values-i.is) c.from_residual-in_err-set.ensures.1 c.in_err-set.ensures.played
+
+pub set-loop-i-preserved : goal.set-loop-i-preserved
+set-loop-i-preserved g t c =
+    let l = c.loop-i in
+    let h = c.in_ok-set.ensures.played.0 in
+    record {
+      leads = set_step c.in-Some.lefts.now c.in-Some-same_shape.values.now l.i c.index-lefts-i.result c.index-values-i.result (omega arith) c.in-Some-same_shape.ensures.count c.index-lefts-i.is c.index-values-i.is l.invariant.leads h;
+      sound = h.sound l.invariant.sound;
+      lefts = all_later h _ l.invariant.lefts;
+      values = all_later h _ l.invariant.values;
+      falls = omega (arith, c.in_ok-set.ensures.falls, l.invariant.falls);
+      ticks = cc;
+    }
+
+pub set-returns-clause-played : goal.set-returns-clause-played
+set-returns-clause-played g t c = (set_over c.in-Some.lefts.now c.in-Some-same_shape.values.now c.loop-i.i (omega arith) c.loop-i.invariant.leads, tt)
+
+-- ---- rows that give a symbol a new value
+
+pub changing-returns-in_err-old-clause-played : goal.changing-returns-in_err-old-clause-played
+changing-returns-in_err-old-clause-played g t c =
+    let a = c.args in
+    changing_stop (λ o v. kept_value a.keeps_old o v) (λ o. updated a.update o (plain a.by.now)) (plain a.subject.now) a.self.now _ _ _ c.from_residual.ensures.1 c.in_err-old.ensures.played
+
+pub changing-returns-then-same-clause-played : goal.changing-returns-then-same-clause-played
+changing-returns-then-same-clause-played g t c =
+    let a = c.args in
+    let o = plain c.in_ok-old.old in
+    changing_none (λ o v. kept_value a.keeps_old o v) (λ o. updated a.update o (plain a.by.now)) (plain a.subject.now) a.self.now o _ c.in_ok-old.ensures.played.0 (sym (same_answer c.same.result o (plain a.subject.now) c.same.ensures) ∙ c.if-same.true)
+
+pub changing-of_made-assignment-requires : goal.changing-of_made-assignment-requires
+changing-of_made-assignment-requires g t c = ascii_is_name (codes "Set") refl
+
+pub changing-value_of_built-requires : goal.changing-value_of_built-requires
+changing-value_of_built-requires g t c κs within =
+    let h = c.in_ok-old.ensures.played in
+    let s = c.value_of.new.self.store in
+    (search rules, (within, (h.0.sound c.requires.sound, c.of_made-assignment.ensures.honest s (later h.0 _ c.requires.subject) (c.updated-made.ensures.honest s h.1.0 (later h.0 _ c.requires.by)))))
+
+pub changing-returns-in_err-new-clause-played : goal.changing-returns-in_err-new-clause-played
+changing-returns-in_err-new-clause-played g t c =
+    let a = c.args in
+    let o = plain c.in_ok-old.old in
+    let s = sym (same_answer c.same.result o (plain a.subject.now) c.same.ensures) ∙ c.if-same.false in
+    new_stop (λ o v. kept_value a.keeps_old o v) (λ o. updated a.update o (plain a.by.now)) (plain a.subject.now) a.self.now o _ c.in_ok-old.ensures.played.0 _ _ _ c.from_residual-in_err-new.ensures.1 s
+    (c.in_err-new.ensures.played _ (c.of_made-assignment.ensures.made _ c.updated-made.ensures.made))
+
+pub changing-returns-clause-played : goal.changing-returns-clause-played
+changing-returns-clause-played g t c =
+    let a = c.args in
+    let old = c.in_ok-old.old in
+    let o = plain old in
+    let new = c.in_ok-new.new in
+    let h = c.in_ok-old.ensures.played in
+    let v = c.in_ok-new.ensures.played _ (c.of_made-assignment.ensures.made _ c.updated-made.ensures.made) in
+    let s = sym (same_answer c.same.result o (plain a.subject.now) c.same.ensures) ∙ c.if-same.false in
+    let e = c.chosen.result in
+    new_given (λ o v. kept_value a.keeps_old o v) (λ o. updated a.update o (plain a.by.now)) (plain a.subject.now) a.self.now o _ h.0 (plain new) e c.value_of_built.new.self s v.0
+    (chosen_is a.keeps_old old new e c.chosen.ensures.same) c.chosen.ensures.fits (chosen_honest c.value_of_built.new.self a.keeps_old old new e c.chosen.ensures.same (later v.0 _ h.1.0) v.1.0)
+
+pub update_row-returns-in_default-clause-played : goal.update_row-returns-in_default-clause-played
+update_row-returns-in_default-clause-played g t c =
+    let new : Tree → Tree → Tree = λ o v. updated c.args.update o v in
+    row_stays _ _ (changing_by-by new (trees c.args.args.now) ∙ ap (by (changed_both new)) (sym c.in_default.ensures.value))
+
+pub update_row-changing-requires : goal.update_row-changing-requires
+update_row-changing-requires g t c κs within = (search rules, (within, (c.requires.sound, c.in-Some.ensures.honest c.args.self.now.store c.requires.args)))
+
+pub update_row-returns-clause-played : goal.update_row-returns-clause-played
+update_row-returns-clause-played g t c =
+    let new : Tree → Tree → Tree = λ o v. updated c.args.update o v in
+    read_some (changed_both new) _ _ (changing_by-by new (trees c.args.args.now)) c.args.self.now _ _ _ (sym c.in-Some.ensures.value) c.changing.ensures.played
+
+pub step_row-returns-in_default-clause-played : goal.step_row-returns-in_default-clause-played
+step_row-returns-in_default-clause-played g t c =
+    let keep : Tree → Tree → Tree = λ o v. kept_value c.args.keeps_old o v in
+    let v = one c.args.is_negative in
+    row_stays _ _ (stepping-by keep v (trees c.args.args.now) ∙ ap (by (λ x. definitions.changing keep (λ o. definitions.plus o v) x)) (sym c.in_default.ensures.value))
+
+pub step_row-changing-requires : goal.step_row-changing-requires
+step_row-changing-requires g t c κs within =
+    let s = c.args.self.now.store in
+    (search rules, (within, (c.requires.sound, (c.in-Some.ensures.honest s c.requires.args, c.in_ok-by.ensures.honest s))))
+
+pub step_row-returns-clause-played : goal.step_row-returns-clause-played
+step_row-returns-clause-played g t c =
+    let keep : Tree → Tree → Tree = λ o v. kept_value c.args.keeps_old o v in
+    let v = one c.args.is_negative in
+    read_some (λ x. definitions.changing keep (λ o. definitions.plus o v) x) _ _ (stepping-by keep v (trees c.args.args.now)) c.args.self.now _ _ _ (sym c.in-Some.ensures.value)
+    (subst (λ z. Played found_tree (sized_row (definitions.changing keep (λ o. definitions.plus o z) (plain c.in-Some.subject.now))) c.args.self.now c.changing.result c.changing.new.self) c.in_ok-by.ensures.value c.changing.ensures.played)
+
+-- ---- the rest of the rows of matches
 
 pub free_row-returns-in_default-clause-played : goal.free_row-returns-in_default-clause-played
 free_row-returns-in_default-clause-played g t c = pair_stays match_rows.free_row c.args.args.now c.args.self.now c.in_default.ensures refl (λ x. refl) (λ x y z ts. refl)

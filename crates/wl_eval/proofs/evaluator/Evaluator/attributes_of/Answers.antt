@@ -1,5 +1,6 @@
 use Rattle.std.proofs.Common.{refl, ◌∙◌, ap}
 use Rattle.wl_eval.proofs.Moves.{plays_attributes, none_attributes, looked_same}
+use Rattle.wl_eval.proofs.Ticking.{ticked}
 use Rattle.wl_eval.proofs.evaluator.Evaluator.attributes_of.Goals as goal
 
 pub returns-in-Some-clause-value : goal.returns-in-Some-clause-value
@@ -19,3 +20,9 @@ returns-in-None-clause-value g c =
 pub returns-in-None-clause-played : goal.returns-in-None-clause-played
 returns-in-None-clause-played g c =
     plays_attributes c.args.name.now c.args.self.now c.note_look.new.self c.in_ok-note_look.ensures.played c.none.result (returns-in-None-clause-value g c)
+
+pub returns-in-Some-clause-ticks : goal.returns-in-Some-clause-ticks
+returns-in-Some-clause-ticks g c = ticked 1 _ _ c.consult.ensures.ticks ∙ c.note_look.ensures.ticks
+
+pub returns-in-None-clause-ticks : goal.returns-in-None-clause-ticks
+returns-in-None-clause-ticks g c = ticked 1 _ _ c.consult.ensures.ticks ∙ c.note_look.ensures.ticks

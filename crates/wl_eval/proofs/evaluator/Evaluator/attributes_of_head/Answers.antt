@@ -6,4 +6,5 @@ pub returns-in_default : goal.returns-in_default
 returns-in_default g c = record {
   played = plays_no_attributes _ _ _ (no_symbol _ _ _ c.view.ensures.all c.in_default.not-Symbol) c.none.ensures;
   kept = refl;
+  ticks = refl;
 }

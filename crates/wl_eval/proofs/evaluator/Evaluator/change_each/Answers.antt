@@ -20,6 +20,7 @@ loop-i-preserved g c =
       leads = leads_on c.loop-i.invariant.leads (change_step f x (names_among (trees (drop i ss))) (names_among (trees (drop (i + 1) ss))) c.loop-i.self c.change_attributes.new.self at e.played);
       sound = e.played.sound c.loop-i.invariant.sound;
       kept = e.kept ∙ c.loop-i.invariant.kept;
+      ticks = cc;
     }
 
 pub loop-i-preserved-in_default : goal.loop-i-preserved-in_default
@@ -33,6 +34,7 @@ loop-i-preserved-in_default g c =
       leads = subst (λ ys. Leads (rows.change_each f (names_among (trees ss))) c.args.self.now (rows.change_each f ys) c.loop-i.self) at c.loop-i.invariant.leads;
       sound = c.loop-i.invariant.sound;
       kept = c.loop-i.invariant.kept;
+      ticks = cc;
     }
 
 pub returns-clause-played : goal.returns-clause-played

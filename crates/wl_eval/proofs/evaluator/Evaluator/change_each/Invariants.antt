@@ -2,6 +2,7 @@ use Rattle.std.proofs.Common.{◌≡◌, drop}
 use Rattle.wl_eval.specs.EntryRows as rows
 use Rattle.wl_eval.specs.Operands.{names_among, put_all}
 use Rattle.wl_eval.specs.Played.{Leads, Sound, trees}
+use Rattle.wl_eval.specs.Marks.{at_last_mark}
 use Rattle.wl_eval.proofs.evaluator.Evaluator.change_each.Given as goal
 
 abbrev pub invariant-loop-i : goal.invariant-loop-i
@@ -9,4 +10,5 @@ invariant-loop-i g l = record {
   leads : Leads (rows.change_each (λ s. put_all l.are_in s l.attributes) (names_among (trees l.symbols))) l.fn.self (rows.change_each (λ s. put_all l.are_in s l.attributes) (names_among (trees (drop l.i l.symbols)))) l.self;
   sound : Sound l.self;
   kept : l.self.steps ≡ l.fn.self.steps;
+  ticks : at_last_mark l.work ≡ at_last_mark l.fn.work;
 }

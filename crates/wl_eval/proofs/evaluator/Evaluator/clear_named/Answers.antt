@@ -25,6 +25,7 @@ loop-i-preserved g c =
       leads = leads_on c.loop-i.invariant.leads (clear_step c.args.all x (names_among (trees (drop i ss))) (names_among (trees (drop (i + 1) ss))) c.loop-i.self c.clear_one.new.self at e.played);
       sound = e.played.sound c.loop-i.invariant.sound;
       kept = e.kept ∙ c.loop-i.invariant.kept;
+      ticks = cc;
     }
 
 pub loop-i-preserved-in_default : goal.loop-i-preserved-in_default
@@ -37,6 +38,7 @@ loop-i-preserved-in_default g c =
       leads = subst (λ ys. Leads (rows.clear_each c.args.all (names_among (trees ss))) c.args.self.now (rows.clear_each c.args.all ys) c.loop-i.self) at c.loop-i.invariant.leads;
       sound = c.loop-i.invariant.sound;
       kept = c.loop-i.invariant.kept;
+      ticks = cc;
     }
 
 pub returns-clause-played : goal.returns-clause-played

@@ -23,6 +23,7 @@ loop-k-preserved g c =
       flags = flags_more f hs l.k x l.flags.items c.push.new.self.items _ at c.in_ok-push.ensures.items l.invariant.flags
           (flags_are c.in_ok-attributes.attributes (f x).attributes _ _ _ (e.value ∙ sym (ap (λ d. (d x).attributes) l.invariant.same)) c.has.ensures c.has-in-loop-k.ensures c.has-in-loop-k-2.ensures);
       kept = e.kept ∙ l.invariant.kept;
+      ticks = cc;
     }
 
 pub returns-clause-played : goal.returns-clause-played

@@ -4,6 +4,7 @@ use Rattle.wl_match.specs.Heads.{heads}
 use Rattle.wl_rules.specs.Stored.{definitions}
 use Rattle.wl_eval.specs.Played.{Leads, Sound}
 use Rattle.wl_eval.proofs.Flagging.{flags_by, flags_from}
+use Rattle.wl_eval.specs.Marks.{at_last_mark}
 use Rattle.wl_eval.proofs.evaluator.Evaluator.flags_of.Given as goal
 
 abbrev pub invariant-loop-k : goal.invariant-loop-k
@@ -13,4 +14,5 @@ invariant-loop-k g l = record {
   sound : Sound l.self;
   flags : l.flags.items ≡ map (flags_by (definitions l.fn.self.store)) (take l.k (heads (plain l.pattern)));
   kept : l.self.steps ≡ l.fn.self.steps;
+  ticks : at_last_mark l.work ≡ at_last_mark l.fn.work;
 }

@@ -5,6 +5,7 @@ use Rattle.wl_eval.specs.Played.{state, trees}
 use Rattle.wl_eval.specs.Prog as prog
 use Rattle.wl_eval.specs.State.{World}
 use Rattle.wl_eval.proofs.Moves.{plays_desk}
+use Rattle.wl_eval.proofs.Ticking.{ticked_at_most}
 use Rattle.wl_eval.proofs.evaluator.Evaluator.issue.Goals as goal
 
 pub returns-clause-played : goal.returns-clause-played
@@ -13,3 +14,9 @@ returns-clause-played g c =
     let k = c.args.self.now in
     plays_desk (prog.issue c.args.symbol.now c.args.tag.now (trees c.args.args.now)) k c.issue.new.self
     (ap (λ (d : Desk). let w : World = record (state k).world { desk = d } in w) (sym c.in_ok-issue.ensures.ok))
+
+pub returns-in_err-issue-clause-ticks : goal.returns-in_err-issue-clause-ticks
+returns-in_err-issue-clause-ticks g c = ticked_at_most 2 _ _ c.issue.ensures.ticks
+
+pub returns-clause-ticks : goal.returns-clause-ticks
+returns-clause-ticks g c = ticked_at_most 2 _ _ c.issue.ensures.ticks

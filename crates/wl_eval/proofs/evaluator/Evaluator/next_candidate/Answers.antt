@@ -1,4 +1,4 @@
-use Rattle.std.proofs.Common.{Ok, Some, None, false, sym, subst, arith}
+use Rattle.std.proofs.Common.{Ok, Some, None, false, sym, ◌∙◌, subst, arith}
 use Rattle.std.proofs.lemmas.Result.{err_from_is_err_and}
 use Rattle.wl_expr.specs.Stamped.{plain}
 use Rattle.wl_match.specs.Left.{left, binding}
@@ -7,6 +7,7 @@ use Rattle.wl_eval.specs.Searching.{next_binding}
 use Rattle.wl_eval.proofs.Bindings.{next_none, next_fail, next_is}
 use Rattle.wl_eval.proofs.Playing.{plays_bind, plays_done}
 use Rattle.wl_eval.proofs.Rows.{leads_played, played_exit}
+use Rattle.wl_eval.proofs.Ticking.{ticked}
 use Rattle.wl_eval.proofs.evaluator.Evaluator.next_candidate.Goals as goal
 
 pub returns-in-End-clause-played : goal.returns-in-End-clause-played
@@ -25,6 +26,7 @@ leaves-preserved g c =
           (plays_bind _ _ c.in_ok-take_step-in-Fail.ensures.played.0 h));
       searches = c.next.ensures.searches l.invariant.searches;
       falls = omega arith;
+      ticks = ticked 1 _ _ c.next.ensures.ticks ∙ l.invariant.ticks;
     }
 
 pub returns-in_err-take_step-in-Fail-clause-played : goal.returns-in_err-take_step-in-Fail-clause-played
@@ -61,3 +63,18 @@ returns-in-Candidate-clause-played g c =
           (plays_bind _ _ c.in_ok-take_step-in-Candidate.ensures.played.0 plays_done)),
       tt,
     )
+
+pub returns-in_err-leaf-clause-ticks : goal.returns-in_err-leaf-clause-ticks
+returns-in_err-leaf-clause-ticks g c = ticked 1 _ _ c.next.ensures.ticks ∙ c.leaves.invariant.ticks
+
+pub returns-in-End-clause-ticks : goal.returns-in-End-clause-ticks
+returns-in-End-clause-ticks g c = ticked 1 _ _ c.next.ensures.ticks ∙ c.leaves.invariant.ticks
+
+pub returns-in_err-take_step-in-Fail-clause-ticks : goal.returns-in_err-take_step-in-Fail-clause-ticks
+returns-in_err-take_step-in-Fail-clause-ticks g c = ticked 1 _ _ c.next.ensures.ticks ∙ c.leaves.invariant.ticks
+
+pub returns-in_err-take_step-in-Candidate-clause-ticks : goal.returns-in_err-take_step-in-Candidate-clause-ticks
+returns-in_err-take_step-in-Candidate-clause-ticks g c = ticked 1 _ _ c.next.ensures.ticks ∙ c.leaves.invariant.ticks
+
+pub returns-in-Candidate-clause-ticks : goal.returns-in-Candidate-clause-ticks
+returns-in-Candidate-clause-ticks g c = ticked 1 _ _ c.next.ensures.ticks ∙ c.leaves.invariant.ticks
