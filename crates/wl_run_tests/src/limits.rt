@@ -53,13 +53,3 @@ fn turns(rt: HostRuntime) -> Result<(), Fail> {
 }
 
 /// The deepest nests of frames, in a stack of the usual size.
-#[test]
-fn the_greatest_depth(rt: HostRuntime) -> Result<(), Fail> {
-    answers(
-        &rt,
-        rt.alloc(),
-        b"$RecursionLimit = 512\nf[x_] := 0 /; f[x + 1]; f[0]\ng[x_] := Table[True && (a /. a :> g[x + 1]), {1}]; g[0]\nh[x_] := 0 /; (Table[True && (a /. a :> h[x + 1]), {1}]; True); h[0]\n",
-        "Out[1]= 512\n$RecursionLimit::reclim: Recursion depth of 512 exceeded.\nOut[2]= $Aborted\n$RecursionLimit::reclim: Recursion depth of 512 exceeded.\nOut[3]= $Aborted\n$RecursionLimit::reclim: Recursion depth of 512 exceeded.\nOut[4]= $Aborted\n",
-        0,
-    )
-}
