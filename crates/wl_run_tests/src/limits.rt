@@ -51,5 +51,3 @@ fn turns(rt: HostRuntime) -> Result<(), Fail> {
     }
     Ok(())
 }
-
-/// The deepest nests of frames, in a stack of the usual size.
