@@ -23,7 +23,7 @@ use Rattle.std.specs.Prelude.{◌≡◌, true, false, [], ◌∷◌, refl, codes
 use Rattle.wl_expr.specs.Tree.{num}
 use Rattle.wl_expr.specs.Words.{applied, natural, whole}
 use Rattle.wl_rules.specs.Start.{words}
-use Rattle.wl_eval.specs.Cells.{cells, briefs, name, string, call}
+use Rattle.wl_laws.specs.Cells.{cells, briefs, name, string, call}
 
 '''
 

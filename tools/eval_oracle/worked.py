@@ -74,13 +74,13 @@ use Rattle.std.specs.Prelude.{◌≡◌, true, false, [], ◌∷◌, codes, pos,
 use Rattle.wl_expr.specs.Tree.{num}
 use Rattle.wl_expr.specs.Words.{applied, natural, whole}
 use Rattle.wl_rules.specs.Start.{words}
-use Rattle.wl_eval.specs.Cells.{cells, briefs, name, string, call}
+use Rattle.wl_laws.specs.Cells.{cells, briefs, name, string, call}
 
 '''
 PROOFS = '''-- The worked cells, computed. tools/eval_oracle/worked.py writes this file.
 use Rattle.std.proofs.Common.{refl}
-use Rattle.wl_eval.specs.Cells.{cells}
-use Rattle.wl_eval.specs.WorkedCells.{%s}
+use Rattle.wl_laws.specs.Cells.{cells}
+use Rattle.wl_laws.specs.WorkedCells.{%s}
 
 '''
 

@@ -1,7 +1,7 @@
 use Rattle.std.proofs.Common.{false, ap, ◌∙◌}
 use Rattle.wl_expr.specs.Stamped.{plain}
 use Rattle.wl_eval.specs.KernelView.{KernelView, state_of}
-use Rattle.wl_eval.specs.Outcome.{evaluated}
+use Rattle.wl_semantics.specs.Outcome.{evaluated}
 use Rattle.wl_eval.proofs.Kernels.{evaluated_ends, evaluated_leaves, good_honest, idle_after, idle_sound}
 use Rattle.wl_eval.proofs.kernel.Kernel.evaluate.Goals as goal
 
