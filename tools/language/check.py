@@ -25,7 +25,7 @@ CRATES = ROOT / "crates"
 START = CRATES / "wl_rules" / "specs" / "Start.antt"
 LIMITS = {"$RecursionLimit", "$IterationLimit"}
 # crates and files that the document names before they are there
-COMING = {"wl_poly", "wl_strings", "wl_eval/RestoreRow"}
+COMING = {"wl_poly", "wl_strings", "wl_semantics/RestoreRow"}
 
 Block = collections.namedtuple("Block", "line words text cells")
 Oracle = collections.namedtuple("Oracle", "cells session wl words")
