@@ -6,15 +6,14 @@ ghost use Rattle.wl_state.specs.Played.{Honest, Played, Sound, found_tree};
 ghost use Rattle.wl_semantics.specs.Turn as turn;
 ghost use Rattle.wl_state.specs.Marks.{at_last_mark};
 
+use crate::built_in::built_in;
+use crate::trial::trial;
 use wl_expr::{Expr, Look};
 use wl_ports::{Ledger, Work};
 use wl_rules::{Attribute, Attributes, RuleKind};
-
 use wl_state::applying::{head_place, up_symbols};
 use wl_state::ends::Stop;
 use wl_state::evaluator::Evaluator;
-use crate::built_in::built_in;
-use crate::trial::trial;
 
 /// The result of the first rule that applies: up values, then down or sub values, then the built-in rule.
 #[cycle(eval)]

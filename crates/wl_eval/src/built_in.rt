@@ -7,16 +7,6 @@ ghost use Rattle.wl_state.specs.Parts.{sized_row};
 ghost use Rattle.wl_state.specs.Played.{AllHonest, Honest, Played, Sound, found_tree, trees};
 ghost use Rattle.wl_state.specs.Marks.{at_last_mark};
 
-use wl_control::Cursor;
-use wl_expr::{Expr, Look};
-use wl_ports::{Ledger, Work};
-
-use wl_state::built_in::begins_capital;
-use wl_state::end_rows::{abort_row, break_row, continue_row, throw_row};
-use wl_state::ends::Stop;
-use wl_state::evaluator::Evaluator;
-use wl_state::kind::Kind;
-use wl_state::update_rows::Update;
 use crate::control_rows::control_row;
 use crate::end_rows::{catch_row, check_abort_row};
 use crate::match_rows::{cases_row, count_row, delete_cases_row, free_row, match_row, member_row};
@@ -24,8 +14,19 @@ use crate::quiet_rows::{check_row, quiet_row};
 use crate::replace_rows::{replace_all_row, replace_repeated_row, replace_row};
 use crate::scope_rows::{block_row, module_row, with_row};
 use crate::set_rows::{set_delayed_row, set_row, unset_row};
-use crate::tag_rows::{tag_set_delayed_row, tag_set_row, tag_unset_row, up_set_delayed_row, up_set_row};
+use crate::tag_rows::{
+    tag_set_delayed_row, tag_set_row, tag_unset_row, up_set_delayed_row, up_set_row,
+};
 use crate::update_rows::{step_row, update_row};
+use wl_control::Cursor;
+use wl_expr::{Expr, Look};
+use wl_ports::{Ledger, Work};
+use wl_state::built_in::begins_capital;
+use wl_state::end_rows::{abort_row, break_row, continue_row, throw_row};
+use wl_state::ends::Stop;
+use wl_state::evaluator::Evaluator;
+use wl_state::kind::Kind;
+use wl_state::update_rows::Update;
 
 /// The result of the built-in rule of a form, where there is one.
 #[cycle(eval)]

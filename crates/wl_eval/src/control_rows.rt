@@ -16,16 +16,15 @@ ghost use Rattle.wl_state.specs.declared.evaluator.Evaluator.{Evaluator};
 ghost use Rattle.wl_state.specs.declared.replies.Reply.TheVariants as replies;
 ghost use Rattle.wl_state.specs.Marks.{at_last_mark};
 
+use crate::evaluation::{evaluate, value_of_built};
+use crate::matching::matches;
 use wl_control::{Ask, Cursor};
 use wl_expr::Expr;
 use wl_ports::{Ledger, Work};
-
 use wl_state::ends::Stop;
 use wl_state::evaluator::{Evaluator, Taken};
 use wl_state::iterator::iterator_name;
 use wl_state::replies::{Outcome, Reply, caught, stops_by_memory};
-use crate::evaluation::{evaluate, value_of_built};
-use crate::matching::matches;
 
 /// The result of a row of loops and branches, where nothing is evaluated if its iterator's name is Protected.
 #[cycle(eval)]
@@ -178,7 +177,11 @@ fn respond<L: Ledger>(
 
 /// How an evaluation ends, where Break and Continue are caught.
 #[cycle(eval)]
-fn caught_end<L: Ledger>(evaluator: &mut Evaluator, e: Expr, work: &mut Work<L>) -> Result<Reply, Stop>
+fn caught_end<L: Ledger>(
+    evaluator: &mut Evaluator,
+    e: Expr,
+    work: &mut Work<L>,
+) -> Result<Reply, Stop>
     requires sound { Sound evaluator.old }
     requires honest { Honest evaluator.old e }
     ensures played { Played caught_reply (control.end_of_built (plain e)) evaluator.old result evaluator.new }

@@ -4,14 +4,13 @@ ghost use Rattle.wl_semantics.specs.Elements.{evaluated, stays_held};
 ghost use Rattle.wl_state.specs.Played.{AllHonest, Played, Sound, trees, values};
 ghost use Rattle.wl_state.specs.Marks.{at_last_mark};
 
+use crate::evaluation::value_of;
 use wl_expr::{Expr, copy_all};
 use wl_ports::{Ledger, Work};
 use wl_rules::{Attribute, Attributes};
-
 use wl_state::elements::stays_held;
 use wl_state::ends::Stop;
 use wl_state::evaluator::Evaluator;
-use crate::evaluation::value_of;
 
 /// The elements, each evaluated unless it is held.
 #[cycle(eval)]

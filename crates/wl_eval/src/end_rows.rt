@@ -7,14 +7,13 @@ ghost use Rattle.wl_state.specs.Played.{AllHonest, Honest, HonestEnd, Played, So
 ghost use Rattle.wl_semantics.specs.State.{Thrown};
 ghost use Rattle.wl_state.specs.Marks.{at_last_mark};
 
+use crate::evaluation::evaluate;
+use crate::matching::matches;
 use wl_expr::Expr;
 use wl_ports::{Ledger, Work};
-
 use wl_state::end_rows::{after_abort, caught, passed_on};
 use wl_state::ends::{End, Stop};
 use wl_state::evaluator::Evaluator;
-use crate::evaluation::evaluate;
-use crate::matching::matches;
 
 #[cycle(eval)]
 pub(crate) fn catch_row<L: Ledger>(

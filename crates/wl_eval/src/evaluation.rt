@@ -6,17 +6,20 @@ ghost use Rattle.wl_state.specs.Played.{Ended, Honest, Makes, Played, Sound, Tur
 ghost use Rattle.wl_semantics.specs.Prog as prog;
 ghost use Rattle.wl_state.specs.Marks.{at_last_mark};
 
+use crate::turn::turn;
 use wl_expr::{Expr, ExprFault};
 use wl_ports::{Ledger, Work};
-
 use wl_state::ends::{End, Stop, Turned, ended, valued};
 use wl_state::evaluation::is_leaf;
 use wl_state::evaluator::Evaluator;
-use crate::turn::turn;
 
 /// Evaluates, and says how that ended.
 #[cycle(eval)]
-pub(crate) fn evaluate<L: Ledger>(evaluator: &mut Evaluator, e: Expr, work: &mut Work<L>) -> Result<End, Stop>
+pub(crate) fn evaluate<L: Ledger>(
+    evaluator: &mut Evaluator,
+    e: Expr,
+    work: &mut Work<L>,
+) -> Result<End, Stop>
     requires sound { Sound evaluator.old }
     requires honest { Honest evaluator.old e }
     ensures played { Ended (plain e) evaluator.old result evaluator.new }
@@ -39,7 +42,11 @@ pub(crate) fn evaluate<L: Ledger>(evaluator: &mut Evaluator, e: Expr, work: &mut
 
 /// The turns of an evaluation, from the first one on.
 #[cycle(eval)]
-pub(crate) fn turns<L: Ledger>(evaluator: &mut Evaluator, first: Expr, work: &mut Work<L>) -> Result<End, Stop>
+pub(crate) fn turns<L: Ledger>(
+    evaluator: &mut Evaluator,
+    first: Expr,
+    work: &mut Work<L>,
+) -> Result<End, Stop>
     requires sound { Sound evaluator.old }
     requires honest { Honest evaluator.old first }
     ensures played { TurnsEnd 1 (plain first) evaluator.old result evaluator.new }
@@ -70,7 +77,11 @@ pub(crate) fn turns<L: Ledger>(evaluator: &mut Evaluator, first: Expr, work: &mu
 
 /// A turn with its step. Here stamps will be made.
 #[cycle(eval)]
-fn stepped_turn<L: Ledger>(evaluator: &mut Evaluator, e: &Expr, work: &mut Work<L>) -> Result<Turned, Stop>
+fn stepped_turn<L: Ledger>(
+    evaluator: &mut Evaluator,
+    e: &Expr,
+    work: &mut Work<L>,
+) -> Result<Turned, Stop>
     requires sound { Sound evaluator.old }
     requires honest { Honest evaluator.old e.now }
     ensures played { Played sealed (whole_turn (plain e.now)) evaluator.old result evaluator.new }
@@ -83,7 +94,11 @@ fn stepped_turn<L: Ledger>(evaluator: &mut Evaluator, e: &Expr, work: &mut Work<
 
 /// A turn, with its step.
 #[cycle(eval)]
-fn bare_turn<L: Ledger>(evaluator: &mut Evaluator, e: &Expr, work: &mut Work<L>) -> Result<Turned, Stop>
+fn bare_turn<L: Ledger>(
+    evaluator: &mut Evaluator,
+    e: &Expr,
+    work: &mut Work<L>,
+) -> Result<Turned, Stop>
     requires sound { Sound evaluator.old }
     requires honest { Honest evaluator.old e.now }
     ensures played { Played turned (whole_turn (plain e.now)) evaluator.old result evaluator.new }
@@ -97,7 +112,11 @@ fn bare_turn<L: Ledger>(evaluator: &mut Evaluator, e: &Expr, work: &mut Work<L>)
 
 /// The value of an expression.
 #[cycle(eval)]
-pub(crate) fn value_of<L: Ledger>(evaluator: &mut Evaluator, e: &Expr, work: &mut Work<L>) -> Result<Expr, Stop>
+pub(crate) fn value_of<L: Ledger>(
+    evaluator: &mut Evaluator,
+    e: &Expr,
+    work: &mut Work<L>,
+) -> Result<Expr, Stop>
     requires sound { Sound evaluator.old }
     requires honest { Honest evaluator.old e.now }
     ensures played { Played tree (prog.value_of (plain e.now)) evaluator.old result evaluator.new }

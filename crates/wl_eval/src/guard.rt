@@ -10,9 +10,10 @@ ghost use Rattle.wl_semantics.specs.Match as matching;
 ghost use Rattle.wl_state.specs.Played.{AllHonest, Honest, Played, Sound, found_tree, trees};
 ghost use Rattle.wl_state.specs.Marks.{at_last_mark};
 
+use crate::evaluation::value_of;
+use crate::scope_rows::initials;
 use wl_expr::Expr;
 use wl_ports::{Ledger, Work};
-
 use wl_state::elements::{is_form, is_symbol};
 use wl_state::ends::Stop;
 use wl_state::evaluator::Evaluator;
@@ -21,8 +22,6 @@ use wl_state::locals::{renamed, replaced};
 use wl_state::operands::two;
 use wl_state::replies::stops_by_memory;
 use wl_state::scope_rows::scope_parts;
-use crate::evaluation::value_of;
-use crate::scope_rows::initials;
 
 /// What a guarded body gives, if anything.
 #[cycle(eval)]
@@ -106,7 +105,11 @@ fn module_guard<L: Ledger>(
 
 /// The guard of a With, in the same way.
 #[cycle(eval)]
-fn with_guard<L: Ledger>(evaluator: &mut Evaluator, e: &Expr, work: &mut Work<L>) -> Result<Option<Expr>, Stop>
+fn with_guard<L: Ledger>(
+    evaluator: &mut Evaluator,
+    e: &Expr,
+    work: &mut Work<L>,
+) -> Result<Option<Expr>, Stop>
     requires sound { Sound evaluator.old }
     requires honest { Honest evaluator.old e.now }
     ensures played { (n : ℕ) → 1001 * evaluator.old.steps + depth (plain e.now) ≤ n
@@ -126,7 +129,11 @@ fn with_guard<L: Ledger>(evaluator: &mut Evaluator, e: &Expr, work: &mut Work<L>
 
 /// The guard of a Block, in the same way. What it gives is evaluated while the rules are set aside.
 #[cycle(eval)]
-fn block_guard<L: Ledger>(evaluator: &mut Evaluator, e: &Expr, work: &mut Work<L>) -> Result<Option<Expr>, Stop>
+fn block_guard<L: Ledger>(
+    evaluator: &mut Evaluator,
+    e: &Expr,
+    work: &mut Work<L>,
+) -> Result<Option<Expr>, Stop>
     requires sound { Sound evaluator.old }
     requires honest { Honest evaluator.old e.now }
     ensures played { (n : ℕ) → 1001 * evaluator.old.steps + depth (plain e.now) ≤ n

@@ -8,14 +8,14 @@ ghost use Rattle.wl_state.specs.Marks.{at_last_mark};
 ghost use Rattle.wl_semantics.specs.Outcome.{evaluated, uncaught, new_state, refilled_state, with_line};
 
 use crate::evaluation::evaluate;
-use wl_state::evaluator::{Evaluator, Line};
-use wl_state::outcome::{Outcome, outcome_of};
 use std::alloc::Global;
 use std::marker::Model;
 use wl_desk::{Desk, Item};
 use wl_expr::Expr;
 use wl_ports::{Ledger, Memory, NoLedger, Work};
 use wl_rules::Store;
+use wl_state::evaluator::{Evaluator, Line};
+use wl_state::outcome::{Outcome, outcome_of};
 
 /// What evaluations have in common: the definitions, the history, what the present cell shows, and the steps that are left.
 ///

@@ -7,14 +7,13 @@ ghost use Rattle.wl_state.specs.Played.{Honest, Played, Sound};
 ghost use Rattle.wl_state.specs.Prepared.{MadeBy, prepared_side, under};
 ghost use Rattle.wl_state.specs.Marks.{at_last_mark};
 
+use crate::elements::elements;
 use wl_assign::core;
 use wl_expr::{Expr, Look};
 use wl_ports::{Ledger, Work};
-
 use wl_state::ends::Stop;
 use wl_state::evaluator::Evaluator;
 use wl_state::left_sides::{Prepared, core_made, put_back, with_core};
-use crate::elements::elements;
 
 /// The core with its elements evaluated, but not itself; a head that is a node first, and alike.
 #[cycle(eval)]
@@ -41,7 +40,11 @@ fn evaluated_core<L: Ledger>(
 
 /// The core of a left side as its rule keeps it.
 #[cycle(eval)]
-fn core_of<L: Ledger>(evaluator: &mut Evaluator, left: &Expr, work: &mut Work<L>) -> Result<Option<Expr>, Stop>
+fn core_of<L: Ledger>(
+    evaluator: &mut Evaluator,
+    left: &Expr,
+    work: &mut Work<L>,
+) -> Result<Option<Expr>, Stop>
     requires sound { Sound evaluator.old }
     requires honest { Honest evaluator.old left.now }
     ensures played { MadeBy (definitions.core_of (plain left.now)) evaluator.old result evaluator.new }

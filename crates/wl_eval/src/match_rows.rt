@@ -11,17 +11,16 @@ ghost use Rattle.wl_state.specs.Played.{AllHonest, Honest, Played, Sound, found_
 ghost use Rattle.wl_state.specs.Replacing.{agrees, found_trees, sifted};
 ghost use Rattle.wl_state.specs.Marks.{at_last_mark};
 
+use crate::matching::matches;
+use crate::trial::rule_result;
 use wl_expr::{Expr, Look};
 use wl_ports::{Ledger, Work};
 use wl_rules::Rule;
-
 use wl_state::ends::Stop;
 use wl_state::evaluator::Evaluator;
 use wl_state::match_rows::{agrees, elements, natural, truth};
 use wl_state::operands::{list, pair};
 use wl_state::rules_in::delayed_rule;
-use crate::matching::matches;
-use crate::trial::rule_result;
 
 /// `MatchQ[e, p]`.
 #[cycle(eval)]
@@ -281,7 +280,12 @@ fn cases_by<L: Ledger>(
 
 /// Whether a part matches, the head's before the elements', up to the first that does.
 #[cycle(eval)]
-fn any_part<L: Ledger>(evaluator: &mut Evaluator, p: &Expr, e: &Expr, work: &mut Work<L>) -> Result<bool, Stop>
+fn any_part<L: Ledger>(
+    evaluator: &mut Evaluator,
+    p: &Expr,
+    e: &Expr,
+    work: &mut Work<L>,
+) -> Result<bool, Stop>
     requires sound { Sound evaluator.old }
     requires pattern { Honest evaluator.old p.now }
     requires honest { Honest evaluator.old e.now }

@@ -11,17 +11,16 @@ ghost use Rattle.wl_state.specs.Played.{AllHonest, Honest, Makes, Played, Sound,
 ghost use Rattle.wl_state.specs.Searching.{HonestView, passes_within, refuses_within, tests_within, true_of_built};
 ghost use Rattle.wl_state.specs.Marks.{at_last_mark};
 
+use crate::evaluation::value_of_built;
 use std::slice;
 use wl_expr::{Expr, ExprFault};
 use wl_match::{Machine, Pattern, Test, View};
 use wl_ports::{Ledger, Work};
 use wl_shape::fill;
-
 use wl_state::elements::is_symbol;
 use wl_state::ends::Stop;
 use wl_state::evaluator::Evaluator;
 use wl_state::runs::elements_of_run;
-use crate::evaluation::value_of_built;
 
 /// Whether the pattern matches the expression.
 #[cycle(eval)]

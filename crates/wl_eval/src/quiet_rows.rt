@@ -8,20 +8,23 @@ ghost use Rattle.wl_state.specs.Played.{AllHonest, Honest, Played, Sound, found_
 ghost use Rattle.wl_semantics.specs.State.{Aborted};
 ghost use Rattle.wl_state.specs.Marks.{at_last_mark};
 
+use crate::evaluation::{evaluate, turns};
 use wl_expr::Expr;
 use wl_ports::{Ledger, Work};
-
 use wl_state::end_rows::passed_on;
 use wl_state::ends::{End, Stop};
 use wl_state::evaluation::is_leaf;
 use wl_state::evaluator::Evaluator;
 use wl_state::quiet_rows::unless_heard;
-use crate::evaluation::{evaluate, turns};
 
 /// Evaluates inside a Quiet, and says how that ended. The level is opened before the Quiet, so that no more Quiets are open than
 /// evaluations.
 #[cycle(eval)]
-fn evaluate_quietly<L: Ledger>(evaluator: &mut Evaluator, e: Expr, work: &mut Work<L>) -> Result<End, Stop>
+fn evaluate_quietly<L: Ledger>(
+    evaluator: &mut Evaluator,
+    e: Expr,
+    work: &mut Work<L>,
+) -> Result<End, Stop>
     requires sound { Sound evaluator.old }
     requires honest { Honest evaluator.old e }
     ensures played { EndsBy (quiet_end (plain e)) evaluator.old result evaluator.new }

@@ -8,17 +8,16 @@ ghost use Rattle.wl_state.specs.Played.{AllHonest, AllHonestRules, Honest, Playe
 ghost use Rattle.wl_state.specs.Replacing.{replacing, replacing_each, seen_each, seen_replaced, seen_result};
 ghost use Rattle.wl_state.specs.Marks.{at_last_mark};
 
+use crate::evaluation::value_of_built;
+use crate::trial::first_result;
 use wl_expr::{Expr, Look};
 use wl_ports::{Ledger, Work};
 use wl_rules::Rule;
-
 use wl_state::ends::Stop;
 use wl_state::evaluator::Evaluator;
 use wl_state::operands::pair;
 use wl_state::replace_rows::{Replaced, ReplacedEach, made, rebuilt, with_part};
 use wl_state::rules_in::rules_in;
-use crate::evaluation::value_of_built;
-use crate::trial::first_result;
 
 /// `Replace[e, rules]` tries e as a whole, and gives e where no rule applies.
 #[cycle(eval)]

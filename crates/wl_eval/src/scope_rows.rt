@@ -7,19 +7,22 @@ ghost use Rattle.wl_semantics.specs.ScopeRows as rows;
 ghost use Rattle.wl_semantics.specs.Scoping as scoping;
 ghost use Rattle.wl_state.specs.Marks.{at_last_mark};
 
+use crate::evaluation::value_of;
 use wl_expr::Expr;
 use wl_ports::{Ledger, Memory, Work};
-
 use wl_state::ends::Stop;
 use wl_state::evaluator::Evaluator;
 use wl_state::locals::{Local, locals, renamed, replaced};
 use wl_state::replies::stops_by_memory;
 use wl_state::scope_rows::scope_parts;
-use crate::evaluation::value_of;
 
 /// A local name with its value evaluated, where it has one.
 #[cycle(eval)]
-fn initial<L: Ledger>(evaluator: &mut Evaluator, name: &Local, work: &mut Work<L>) -> Result<Local, Stop>
+fn initial<L: Ledger>(
+    evaluator: &mut Evaluator,
+    name: &Local,
+    work: &mut Work<L>,
+) -> Result<Local, Stop>
     requires sound { Sound evaluator.old }
     requires local { IsLocal evaluator.old.store name.now }
     ensures played { Played local (scoping.initial (local_in name.now)) evaluator.old result evaluator.new }

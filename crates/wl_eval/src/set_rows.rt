@@ -7,15 +7,14 @@ ghost use Rattle.wl_state.specs.Played.{AllHonest, Honest, Played, Sound, found_
 ghost use Rattle.wl_state.specs.Prepared.{message_text, same_shape, set_one};
 ghost use Rattle.wl_state.specs.Marks.{at_last_mark};
 
+use crate::left_sides::prepared;
 use wl_expr::Expr;
 use wl_ports::{Ledger, Work};
-
 use wl_state::ends::Stop;
 use wl_state::evaluator::Evaluator;
 use wl_state::left_sides::moved;
 use wl_state::operands::{list_elements, only, two};
 use wl_state::set_rows::{message_text, refusal, same_shape};
-use crate::left_sides::prepared;
 
 /// Defines a left side, and answers whether that is refused.
 #[cycle(eval)]
@@ -62,7 +61,12 @@ fn set_one<L: Ledger>(
 
 /// Sets a left side, of a list each element.
 #[cycle(eval)]
-fn set<L: Ledger>(evaluator: &mut Evaluator, left: &Expr, value: &Expr, work: &mut Work<L>) -> Result<(), Stop>
+fn set<L: Ledger>(
+    evaluator: &mut Evaluator,
+    left: &Expr,
+    value: &Expr,
+    work: &mut Work<L>,
+) -> Result<(), Stop>
     requires sound { Sound evaluator.old }
     requires left { Honest evaluator.old left.now }
     requires value { Honest evaluator.old value.now }

@@ -7,16 +7,15 @@ ghost use Rattle.wl_state.specs.Parts.{sized_row};
 ghost use Rattle.wl_state.specs.Played.{AllHonest, Honest, Played, Sound, found_tree, itself, trees};
 ghost use Rattle.wl_state.specs.Marks.{at_last_mark};
 
+use crate::evaluation::value_of;
+use crate::left_sides::prepared;
 use wl_expr::Expr;
 use wl_ports::{Ledger, Work};
-
 use wl_state::ends::Stop;
 use wl_state::evaluator::Evaluator;
 use wl_state::left_sides::moved;
 use wl_state::operands::{name_and_one, name_and_two, two};
 use wl_state::set_rows::refusal;
-use crate::evaluation::value_of;
-use crate::left_sides::prepared;
 
 /// Gives each tag of a left side an up rule, and answers whether one is refused.
 #[cycle(eval)]

@@ -11,18 +11,17 @@ ghost use Rattle.wl_state.specs.Played.{AllHonest, AllHonestRules, Honest, Playe
 ghost use Rattle.wl_state.specs.Searching.{HonestView};
 ghost use Rattle.wl_state.specs.Marks.{at_last_mark};
 
+use crate::guard::guard;
+use crate::matching::tests_hold;
 use wl_expr::Expr;
 use wl_match::{Machine, Pattern, View};
 use wl_ports::{Ledger, Work};
 use wl_rules::{Rule, RuleList};
 use wl_shape::fill;
-
 use wl_state::ends::Stop;
 use wl_state::evaluator::Evaluator;
 use wl_state::guard::is_guarded;
 use wl_state::literal::matches_itself;
-use crate::guard::guard;
-use crate::matching::tests_hold;
 
 /// The result of the first of these rules that applies. Later changes of the entry don't touch them.
 #[cycle(eval)]

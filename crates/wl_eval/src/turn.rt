@@ -9,22 +9,25 @@ ghost use Rattle.wl_state.specs.Played.{AllHonest, Honest, Played, Sound, trees,
 ghost use Rattle.wl_semantics.specs.Turn as turn;
 ghost use Rattle.wl_state.specs.Marks.{at_last_mark};
 
+use crate::applying::{applied_rule, tried};
+use crate::elements::elements;
+use crate::evaluation::value_of;
 use std::slice;
 use wl_expr::{Expr, Look};
 use wl_ports::{Ledger, Work};
 use wl_rules::{Attributes, RuleKind};
 use wl_shape::Shaped;
-
 use wl_state::ends::{Stop, Turned};
 use wl_state::evaluator::Evaluator;
 use wl_state::shaping::{is_bared, shaped, stays};
 use wl_state::turn::{final_form, turned};
-use crate::applying::{applied_rule, tried};
-use crate::elements::elements;
-use crate::evaluation::value_of;
 
 #[cycle(eval)]
-pub(crate) fn turn<L: Ledger>(evaluator: &mut Evaluator, e: &Expr, work: &mut Work<L>) -> Result<Turned, Stop>
+pub(crate) fn turn<L: Ledger>(
+    evaluator: &mut Evaluator,
+    e: &Expr,
+    work: &mut Work<L>,
+) -> Result<Turned, Stop>
     requires sound { Sound evaluator.old }
     requires honest { Honest evaluator.old e.now }
     ensures played { Played turned (turn.turn (plain e.now)) evaluator.old result evaluator.new }
@@ -77,7 +80,14 @@ fn node_turn<L: Ledger>(
     let values = elements(evaluator, attributes, args, work)?;
     let first = Expr::node(evaluator.alloc, &head, values.as_slice());
     let first = evaluator.fitted(first, work)?;
-    shaped_turn(evaluator, attributes, &first, &head, values.as_slice(), work)
+    shaped_turn(
+        evaluator,
+        attributes,
+        &first,
+        &head,
+        values.as_slice(),
+        work,
+    )
 }
 
 /// The turn of a node, once its head and its elements stand.

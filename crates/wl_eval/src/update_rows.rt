@@ -7,14 +7,13 @@ ghost use Rattle.wl_state.specs.Played.{AllHonest, Honest, Played, Sound, found_
 ghost use Rattle.wl_state.specs.Prepared.{kept, one, updated};
 ghost use Rattle.wl_state.specs.Marks.{at_last_mark};
 
+use crate::evaluation::{value_of, value_of_built};
 use wl_expr::Expr;
 use wl_ports::{Ledger, Work};
-
 use wl_state::ends::Stop;
 use wl_state::evaluator::Evaluator;
 use wl_state::operands::{only, two};
 use wl_state::update_rows::{Update, chosen, of_made, one, updated};
-use crate::evaluation::{value_of, value_of_built};
 
 /// Sets a symbol to a new value, which is made of its old one, where it has one.
 #[cycle(eval)]

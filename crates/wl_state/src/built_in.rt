@@ -8,12 +8,11 @@ ghost use Rattle.wl_state.specs.Played.{Played, Plays, found_tree};
 ghost use Rattle.wl_semantics.specs.PureRows as pure;
 ghost use Rattle.wl_state.specs.Marks.{at_last_mark};
 
+use crate::ends::Stop;
+use crate::evaluator::Evaluator;
 use std::slice;
 use wl_expr::{Applied, Expr, ExprFault, Notice};
 use wl_ports::{Ledger, Memory, Work};
-
-use crate::ends::Stop;
-use crate::evaluator::Evaluator;
 
 /// Whether a name begins as each of a built-in function does.
 pub fn begins_capital(name: &str) -> bool

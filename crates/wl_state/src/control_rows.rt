@@ -9,12 +9,11 @@ ghost use Rattle.wl_state.specs.declared.ends.Stop.{Stop};
 ghost use Rattle.wl_state.specs.declared.evaluator.Evaluator.{Evaluator};
 ghost use Rattle.wl_state.specs.Marks.{at_last_mark};
 
-use wl_control::{Ask, Cursor};
-use wl_ports::{Ledger, Work};
-
 use crate::ends::Stop;
 use crate::evaluator::Evaluator;
 use crate::replies::{Reply, lent};
+use wl_control::{Ask, Cursor};
+use wl_ports::{Ledger, Work};
 
 impl Evaluator {
     /// The next question of a row.

@@ -14,17 +14,16 @@ ghost use Rattle.wl_state.specs.Prepared.{tagged_by_head, tagged_of};
 ghost use Rattle.wl_semantics.specs.Prog as prog;
 ghost use Rattle.wl_state.specs.Marks.{at_last_mark};
 
-use std::slice;
-use wl_assign::{Target, has_tag, limit_allows, tag_at, target};
-use wl_expr::{Expr, Look};
-use wl_ports::{Ledger, Memory, Work};
-use wl_rules::{Rule, RuleKind};
-
 use crate::applying::leftmost;
 use crate::elements::is_symbol;
 use crate::evaluator::Evaluator;
 use crate::operands::{null, symbol};
 use crate::refusals::is_limit;
+use std::slice;
+use wl_assign::{Target, has_tag, limit_allows, tag_at, target};
+use wl_expr::{Expr, Look};
+use wl_ports::{Ledger, Memory, Work};
+use wl_rules::{Rule, RuleKind};
 
 /// The rule that a tag gets.
 #[derive(Clone, Copy)]

@@ -13,11 +13,10 @@ ghost use Rattle.wl_state.specs.Played.{Plays, IsTaken, IsUnprotected, MayHave, 
 ghost use Rattle.wl_semantics.specs.Prog as prog;
 ghost use Rattle.wl_state.specs.Marks.{at_last_mark};
 
+use crate::evaluator::{Evaluator, Taken};
 use wl_expr::{Expr, Look};
 use wl_ports::{Ledger, Memory, Work};
 use wl_rules::{Attributes, Rule, RuleKind, RuleList, StoreFault};
-
-use crate::evaluator::{Evaluator, Taken};
 
 /// The answer of a change that isn't refused.
 fn unrefused<T: Drop>(changed: Result<T, StoreFault>) -> Result<T, Memory>

@@ -7,9 +7,8 @@ ghost use Rattle.wl_state.specs.Played.{AllHonest, Honest, HonestEnd, Played, en
 ghost use Rattle.wl_semantics.specs.State.{Thrown};
 ghost use Rattle.wl_state.specs.declared.evaluator.Evaluator.{Evaluator as Kernel};
 
-use wl_expr::Expr;
-
 use crate::ends::{End, Stop, valued};
+use wl_expr::Expr;
 
 /// The value of an end that no row has caught.
 pub fn passed_on(end: End) -> Result<Option<Expr>, Stop>

@@ -15,16 +15,15 @@ ghost use Rattle.wl_state.specs.Played.{Makes, Played, Plays, Sound, found_tree,
 ghost use Rattle.std.specs.Prelude.{true};
 ghost use Rattle.wl_state.specs.Marks.{at_last_mark};
 
+use crate::ends::Stop;
+use crate::evaluator::Evaluator;
+use crate::operands::{are_symbols, list, listed, null, only_symbol, symbol, two};
+use crate::refusals::is_limit;
 use std::alloc::Global;
 use std::slice;
 use wl_expr::{Expr, ExprFault, Look};
 use wl_ports::{Ledger, Memory, Work};
 use wl_rules::{Attribute, Attributes};
-
-use crate::ends::Stop;
-use crate::evaluator::Evaluator;
-use crate::operands::{are_symbols, list, listed, null, only_symbol, symbol, two};
-use crate::refusals::is_limit;
 
 /// The attribute of this name.
 fn attribute_named(name: &str) -> Option<Attribute>

@@ -16,15 +16,14 @@ ghost use Rattle.wl_state.specs.Slots.{IsGiven, new_or, slot_value};
 ghost use Rattle.wl_state.specs.Parts.{sized_row};
 ghost use Rattle.wl_state.specs.Marks.{at_last_mark};
 
-use std::alloc::Global;
-use wl_expr::{Expr, ExprFault, Look, copy_all};
-use wl_ports::{Ledger, Memory, Work};
-use wl_shape::replace;
-
 use crate::elements::is_symbol;
 use crate::ends::Stop;
 use crate::evaluator::Evaluator;
 use crate::operands::{are_symbols, listed, symbol};
+use std::alloc::Global;
+use wl_expr::{Expr, ExprFault, Look, copy_all};
+use wl_ports::{Ledger, Memory, Work};
+use wl_shape::replace;
 
 /// A slot: `#n`, or `##n`.
 #[derive(Clone, Copy)]

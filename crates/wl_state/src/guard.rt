@@ -11,10 +11,9 @@ ghost use Rattle.wl_semantics.specs.Match as matching;
 ghost use Rattle.wl_state.specs.Played.{trees};
 ghost use Rattle.wl_state.specs.Searching.{needs_values, scope_body};
 
-use wl_expr::{Expr, Look};
-
 use crate::elements::is_symbol;
 use crate::operands::two;
+use wl_expr::{Expr, Look};
 
 /// Whether the expression is a symbol.
 fn is_name(e: &Expr) -> bool

@@ -12,15 +12,14 @@ ghost use Rattle.wl_state.specs.Parts.{sized_row};
 ghost use Rattle.wl_state.specs.Played.{Played, Sound, found_tree, trees};
 ghost use Rattle.wl_state.specs.Marks.{at_last_mark};
 
-use std::alloc::Global;
-use wl_expr::{Expr, ExprFault, Look};
-use wl_form::input_form;
-use wl_ports::{Ledger, Memory, Work};
-
 use crate::elements::is_symbol;
 use crate::ends::Stop;
 use crate::evaluator::Evaluator;
 use crate::operands::null;
+use std::alloc::Global;
+use wl_expr::{Expr, ExprFault, Look};
+use wl_form::input_form;
+use wl_ports::{Ledger, Memory, Work};
 
 /// Puts a text as it is behind what is there, and another expression in InputForm.
 fn push_text(alloc: Global, out: &mut String, e: &Expr) -> Result<(), Memory>

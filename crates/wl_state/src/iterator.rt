@@ -11,17 +11,16 @@ ghost use Rattle.wl_state.specs.Played.{Honest, IsTaken, IsUnprotected, MayHave,
 ghost use Rattle.wl_state.specs.Replies.{AreTaken, plain_taken, set_aside};
 ghost use Rattle.wl_state.specs.Marks.{at_last_mark};
 
+use crate::elements::is_symbol;
+use crate::evaluator::{Evaluator, Taken};
+use crate::operands::symbol;
+use crate::refusals::is_limit;
 use std::alloc::Global;
 use std::{mem, slice};
 use wl_assign::limit_allows;
 use wl_expr::{Expr, Look};
 use wl_ports::{Ledger, Memory, Work};
 use wl_rules::{Rule, RuleKind};
-
-use crate::elements::is_symbol;
-use crate::evaluator::{Evaluator, Taken};
-use crate::operands::symbol;
-use crate::refusals::is_limit;
 
 /// The name that the first iterator of a row gives its values to.
 pub fn iterator_name<'a>(name: &str, args: &'a [Expr]) -> Option<&'a str>

@@ -15,16 +15,15 @@ ghost use Rattle.wl_state.specs.Prepared.{Stands, kept_sequences, sides_by, unde
 ghost use Rattle.wl_semantics.specs.Prog as prog;
 ghost use Rattle.wl_state.specs.Marks.{at_last_mark};
 
+use crate::elements::is_symbol;
+use crate::evaluator::Evaluator;
+use crate::operands::form;
 use std::alloc::Global;
 use wl_assign::{Special, core, special_form};
 use wl_expr::{Expr, ExprFault, Look, copy_all};
 use wl_ports::{Ledger, Memory, Work};
 use wl_rules::{Attribute, Attributes};
 use wl_shape::{Shaped, arrange};
-
-use crate::elements::is_symbol;
-use crate::evaluator::Evaluator;
-use crate::operands::form;
 
 /// A left side as its rule keeps it, and its core.
 #[derive(Drop)]

@@ -2,7 +2,6 @@
 ghost use Rattle.std.specs.Prelude.{◌≡◌, ◌<◌, ◌+◌};
 ghost use Rattle.wl_state.specs.Logs.{counted, deepened};
 
-
 use crate::evaluator::Evaluator;
 
 impl Evaluator {

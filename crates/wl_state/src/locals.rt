@@ -12,13 +12,12 @@ ghost use Rattle.wl_state.specs.Played.{Makes};
 ghost use Rattle.wl_semantics.specs.Scoping.{names_of, values_of};
 ghost use Rattle.wl_state.specs.Searching.{needs_values};
 
+use crate::elements::is_symbol;
 use std::alloc::Global;
 use std::slice;
 use wl_expr::{Expr, ExprFault, Look};
 use wl_ports::Memory;
 use wl_shape::{rename, replace};
-
-use crate::elements::is_symbol;
 
 /// A local name, a symbol, perhaps with a value.
 #[derive(Drop)]
@@ -93,11 +92,7 @@ fn local_of(e: &Expr, needs_value: bool) -> Result<Option<Local>, Memory>
 }
 
 /// The local names that the expression lists.
-pub fn locals(
-    alloc: Global,
-    e: &Expr,
-    need_values: bool,
-) -> Result<Option<Vec<Local>>, Memory>
+pub fn locals(alloc: Global, e: &Expr, need_values: bool) -> Result<Option<Vec<Local>>, Memory>
     ensures read { IfOk result (λ o. option_map (λ v. locals_in v.items) o ≡ scopes.locals (needs_values need_values) (plain e.now)) }
     ensures honest { (a : Stored) → HonestIn a e.now → IfOk result (λ o. IfSome o (λ v. AreLocals a v.items)) }
 {
@@ -155,12 +150,7 @@ pub(crate) fn numbered(alloc: Global, name: &Expr, n: u64) -> Result<Expr, Memor
 }
 
 /// The body with the local names renamed to those of the n-th Module.
-pub fn renamed(
-    alloc: Global,
-    body: &Expr,
-    locals: &[Local],
-    n: u64,
-) -> Result<Expr, ExprFault>
+pub fn renamed(alloc: Global, body: &Expr, locals: &[Local], n: u64) -> Result<Expr, ExprFault>
     requires symbols { AreSymbols locals.now }
     ensures made { Makes (fill.rename (plain body.now) (names_of (locals_in locals.now)) n) result }
     ensures honest { (a : Stored) → HonestIn a body.now → IfOk result (HonestIn a) }

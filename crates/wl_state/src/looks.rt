@@ -14,13 +14,12 @@ ghost use Rattle.wl_state.specs.Played.{Played, Plays, Looked, Sound, AllHonestR
 ghost use Rattle.wl_semantics.specs.Prog as prog;
 ghost use Rattle.wl_state.specs.Marks.{at_last_mark};
 
+use crate::ends::Stop;
+use crate::evaluator::{Evaluator, Log};
 use wl_expr::Expr;
 use wl_match::{Flags, head_at, head_count};
 use wl_ports::{Ledger, Memory, Work};
 use wl_rules::{Attribute, Attributes, RuleKind, RuleList};
-
-use crate::ends::Stop;
-use crate::evaluator::{Evaluator, Log};
 
 impl Log {
     /// Notes that the name of this index was read at this version, where it wasn't noted before.

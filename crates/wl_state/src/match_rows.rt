@@ -7,12 +7,11 @@ ghost use Rattle.wl_expr.specs.Words.{elements, natural};
 ghost use Rattle.wl_state.specs.Played.{trees};
 ghost use Rattle.wl_state.specs.Replacing.{agrees, truth_symbol};
 
+use crate::operands::symbol;
 use std::alloc::Global;
 use wl_exact::Num;
 use wl_expr::{Expr, Look};
 use wl_ports::Memory;
-
-use crate::operands::symbol;
 
 /// The symbol True or False.
 pub fn truth(alloc: Global, holds: bool) -> Result<Expr, Memory>

@@ -6,12 +6,11 @@ ghost use Rattle.wl_state.specs.Played.{Played};
 ghost use Rattle.wl_state.specs.Searching.{next_binding, next_found};
 ghost use Rattle.wl_state.specs.Marks.{at_last_mark};
 
+use crate::ends::Stop;
+use crate::evaluator::Evaluator;
 use wl_expr::Expr;
 use wl_match::{Leaf, Machine, Pattern};
 use wl_ports::{Ledger, Work};
-
-use crate::ends::Stop;
-use crate::evaluator::Evaluator;
 
 impl Evaluator {
     /// Goes on to the next binding, where there is one. Each leaf on the way takes a step.

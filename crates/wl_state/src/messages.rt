@@ -8,14 +8,13 @@ ghost use Rattle.wl_state.specs.Played.{Played, Plays, FaultStops, Makes, TooLar
 ghost use Rattle.wl_semantics.specs.Prog as prog;
 ghost use Rattle.wl_state.specs.Marks.{at_last_mark};
 
+use crate::ends::Stop;
+use crate::evaluator::Evaluator;
 use std::alloc::Global;
 use std::slice;
 use wl_exact::Num;
 use wl_expr::{Expr, ExprFault};
 use wl_ports::{Ledger, Memory, Work};
-
-use crate::ends::Stop;
-use crate::evaluator::Evaluator;
 
 /// The expression of a number.
 pub(crate) fn number_of(alloc: Global, n: u32) -> Result<Expr, Memory>

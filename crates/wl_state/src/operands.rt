@@ -16,14 +16,13 @@ ghost use Rattle.wl_state.specs.Replacing.{pair};
 ghost use Rattle.std.specs.Prelude.{Some, None};
 ghost use Rattle.wl_state.specs.Marks.{at_last_mark};
 
+use crate::elements::is_symbol;
+use crate::ends::Stop;
+use crate::evaluator::Evaluator;
 use std::alloc::Global;
 use std::slice;
 use wl_expr::{Expr, ExprFault, Look};
 use wl_ports::{Ledger, Memory, Work};
-
-use crate::elements::is_symbol;
-use crate::ends::Stop;
-use crate::evaluator::Evaluator;
 
 /// The name of a single symbol.
 pub(crate) fn only_symbol(args: &[Expr]) -> Option<&str>

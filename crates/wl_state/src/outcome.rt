@@ -11,14 +11,13 @@ ghost use Rattle.wl_state.specs.declared.evaluator.Evaluator.{Evaluator};
 ghost use Rattle.wl_ports.specs.Name.{IsName};
 ghost use Rattle.wl_state.specs.Marks.{at_last_mark};
 
+use crate::ends::End;
+use crate::evaluator::Evaluator;
+use crate::operands::symbol;
 use std::alloc::Global;
 use std::slice;
 use wl_expr::{Expr, ExprFault};
 use wl_ports::{Ledger, Memory, Work};
-
-use crate::ends::End;
-use crate::evaluator::Evaluator;
-use crate::operands::symbol;
 
 /// The end of an evaluation.
 #[derive(Drop)]

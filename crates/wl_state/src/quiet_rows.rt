@@ -8,14 +8,13 @@ ghost use Rattle.wl_semantics.specs.State.{Aborted};
 ghost use Rattle.wl_state.specs.declared.evaluator.Evaluator.{Evaluator as Kernel};
 ghost use Rattle.wl_state.specs.Marks.{at_last_mark};
 
-use std::slice;
-use wl_expr::Expr;
-use wl_ports::{Ledger, Memory, Work};
-
 use crate::ends::{End, Stop, valued};
 use crate::evaluation::is_leaf;
 use crate::evaluator::Evaluator;
 use crate::messages::number_of;
+use std::slice;
+use wl_expr::Expr;
+use wl_ports::{Ledger, Memory, Work};
 
 /// What Check gives of an end: something else if a message was heard.
 pub fn unless_heard(end: End, heard: bool, other: &Expr) -> Result<Option<Expr>, Stop>

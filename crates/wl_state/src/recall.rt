@@ -5,10 +5,9 @@ ghost use Rattle.wl_state.specs.Played.{Plays, HonestMaybe, Sound};
 ghost use Rattle.wl_semantics.specs.Prog as prog;
 ghost use Rattle.wl_state.specs.Recall.{from_front, numbered};
 
+use crate::evaluator::{Evaluator, Line};
 use wl_expr::Expr;
 use wl_ports::Memory;
-
-use crate::evaluator::{Evaluator, Line};
 
 impl Evaluator {
     /// The next module number. The last one is given again and again.

@@ -7,10 +7,9 @@ ghost use Rattle.wl_semantics.specs.LeftSides.{is_limit};
 ghost use Rattle.wl_state.specs.Played.{Plays};
 ghost use Rattle.wl_state.specs.Marks.{at_last_mark};
 
+use crate::evaluator::Evaluator;
 use wl_expr::Expr;
 use wl_ports::{Ledger, Memory, Work};
-
-use crate::evaluator::Evaluator;
 
 /// Whether the name is that of one of the two limits.
 pub(crate) fn is_limit(name: &str) -> bool

@@ -4,10 +4,9 @@ ghost use Rattle.wl_control.specs.Places.{LastIsFrom, told};
 ghost use Rattle.wl_expr.specs.Stamped.{Stamped};
 ghost use Rattle.wl_state.specs.Replies.{IsCaught, ReplyIsFrom, is_memory, stops_by_memory, told_by};
 
+use crate::ends::{End, Stop};
 use wl_control::Last;
 use wl_expr::Expr;
-
-use crate::ends::{End, Stop};
 
 /// The answer to a question, or the first call.
 #[derive(Drop)]

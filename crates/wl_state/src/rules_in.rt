@@ -8,15 +8,14 @@ ghost use Rattle.wl_semantics.specs.LeftSides.{moved_condition};
 ghost use Rattle.wl_semantics.specs.MatchRows as rows;
 ghost use Rattle.wl_state.specs.Replacing.{IsRuleFrom, MaybeRuleFrom, MaybeRulesFrom, conditioned, is_rule_head};
 
+use crate::elements::is_symbol;
+use crate::guard::is_condition;
+use crate::operands::{pair, symbol};
 use std::alloc::Global;
 use std::slice;
 use wl_expr::{Expr, Look};
 use wl_ports::Memory;
 use wl_rules::Rule;
-
-use crate::elements::is_symbol;
-use crate::guard::is_condition;
-use crate::operands::{pair, symbol};
 
 /// The left side under a condition. It is no larger than the rule in which both stand, which fits.
 fn conditioned(alloc: Global, left: &Expr, test: &Expr) -> Result<Expr, Memory>

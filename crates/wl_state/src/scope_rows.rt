@@ -8,12 +8,11 @@ ghost use Rattle.wl_state.specs.LocalNames.{AreLocals, local, locals_in, scope_p
 ghost use Rattle.wl_state.specs.Played.{trees};
 ghost use Rattle.wl_state.specs.Searching.{needs_values};
 
+use crate::locals::{Local, locals};
+use crate::operands::two;
 use std::alloc::Global;
 use wl_expr::Expr;
 use wl_ports::Memory;
-
-use crate::locals::{Local, locals};
-use crate::operands::two;
 
 /// The local names and the body of the two elements of a scope.
 pub fn scope_parts(

@@ -8,16 +8,15 @@ ghost use Rattle.wl_state.specs.Played.{Honest, IsUnprotected, MayHave, Plays, S
 ghost use Rattle.wl_semantics.specs.Scoping as scoping;
 ghost use Rattle.wl_state.specs.Marks.{at_last_mark};
 
+use crate::evaluator::{Evaluator, Taken};
+use crate::locals::{Local, name_of, numbered};
+use crate::operands::null;
+use crate::refusals::is_limit;
 use std::slice;
 use wl_assign::limit_allows;
 use wl_expr::Expr;
 use wl_ports::{Ledger, Memory, Work};
 use wl_rules::{Rule, RuleKind};
-
-use crate::evaluator::{Evaluator, Taken};
-use crate::locals::{Local, name_of, numbered};
-use crate::operands::null;
-use crate::refusals::is_limit;
 
 /// The rules that were taken out of the entry of a name.
 #[derive(Drop)]

@@ -12,13 +12,12 @@ ghost use Rattle.wl_state.specs.Prepared.{message_text, refusal_name, same_shape
 ghost use Rattle.wl_semantics.specs.Prog as prog;
 ghost use Rattle.wl_state.specs.Marks.{at_last_mark};
 
-use std::alloc::Global;
-use wl_expr::{Expr, Look};
-use wl_ports::{Ledger, Memory, Work};
-
 use crate::evaluator::Evaluator;
 use crate::history_rows::message_name;
 use crate::operands::{list_elements, null, symbol};
+use std::alloc::Global;
+use wl_expr::{Expr, Look};
+use wl_ports::{Ledger, Memory, Work};
 
 /// What a delayed definition gives.
 pub fn refusal(alloc: Global, is_refused: bool) -> Result<Expr, Memory>

@@ -11,14 +11,13 @@ ghost use Rattle.wl_state.specs.Played.{Plays, Sound, trees};
 ghost use Rattle.wl_semantics.specs.Prog as prog;
 ghost use Rattle.wl_state.specs.Marks.{at_last_mark};
 
+use crate::elements::{is_form, is_symbol};
+use crate::evaluator::Evaluator;
 use std::alloc::Global;
 use wl_expr::{Expr, ExprFault, Look};
 use wl_ports::{Ledger, Memory, Work};
 use wl_rules::{Attribute, Attributes};
 use wl_shape::{Shaped, arrange};
-
-use crate::elements::{is_form, is_symbol};
-use crate::evaluator::Evaluator;
 
 /// The element of `Unevaluated[e]`, and any other expression itself.
 fn bare(e: &Expr) -> &Expr

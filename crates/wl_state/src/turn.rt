@@ -4,13 +4,17 @@ ghost use Rattle.wl_state.specs.Parts.{turned_by};
 ghost use Rattle.wl_state.specs.Played.{turned};
 ghost use Rattle.wl_semantics.specs.Turn as turn;
 
+use crate::ends::Turned;
 use wl_expr::Expr;
 use wl_ports::Memory;
 
-use crate::ends::Turned;
-
 /// What a turn gives that tried rules on a form, and that ends with this expression where none changes the form.
-pub fn turned(found: Option<Expr>, form: &Expr, last: &Expr, settled: bool) -> Result<Turned, Memory>
+pub fn turned(
+    found: Option<Expr>,
+    form: &Expr,
+    last: &Expr,
+    settled: bool,
+) -> Result<Turned, Memory>
     ensures { IfOk result (λ t. t ≡ turned_by form.now last.now settled found) }
 {
     let Some(next) = found else {

@@ -9,12 +9,11 @@ ghost use Rattle.wl_state.specs.Honest.{HonestIn};
 ghost use Rattle.wl_state.specs.Played.{Makes};
 ghost use Rattle.wl_state.specs.Prepared.{one, updated};
 
+use crate::operands::{form, two};
 use std::alloc::Global;
 use wl_exact::Num;
 use wl_expr::{Expr, ExprFault};
 use wl_ports::Memory;
-
-use crate::operands::{form, two};
 
 /// How the new value is made of the old one and another.
 #[derive(Clone, Copy)]
