@@ -1,10 +1,10 @@
 -- Laws of the demonstration notebook.
-use Rattle.std.specs.Prelude.{◌≡◌, ℕ, ◌<◌, ◌^◌, Bool, true, ◌&&◌, nat_le, [], ◌∷◌, ◌++◌, length, codes, All}
+use Rattle.std.specs.Prelude.{◌≡◌, ℕ, Bool, true, ◌&&◌, nat_le, [], ◌∷◌, ◌++◌, length, codes, All}
 use Rattle.std.specs.List.{list_all}
 use Rattle.wl_demo.specs.Notebook.{Bytes, notebook, source}
 use Rattle.wl_demo.specs.Summary.{summary}
 
--- the notebooks of no, one and two cells, and the other three forms
+-- the notebooks of no cell, one and two
 abbrev pub WorkedNotebooks : Type 0
 WorkedNotebooks =
     (notebook 0 ≡ [])
@@ -28,4 +28,4 @@ CellsAreCounted = (n : ℕ) → length (notebook n) ≡ n
 
 -- no cell holds a line feed, so that each is one line of the source
 abbrev pub CellsAreLines : Type 0
-CellsAreLines = (n : ℕ) → n < 2 ^ 32 → All IsLine (notebook n)
+CellsAreLines = (n : ℕ) → All IsLine (notebook n)

@@ -10,10 +10,10 @@ Bytes = List ℕ
 abbrev pub next_state : ℕ → ℕ
 next_state s = (1103515245 * s + 12345) % 2 ^ 31
 
--- the state for cell k, where it begins as n
-abbrev pub state : ℕ → ℕ → ℕ
-state n zero = n
-state n (suc k) = next_state (state n k)
+-- the state for cell k, where the first is n
+abbrev pub state_for : ℕ → ℕ → ℕ
+state_for n zero = n
+state_for n (suc k) = next_state (state_for n k)
 
 -- the number that a state gives
 abbrev pub drawn : ℕ → ℕ
@@ -58,7 +58,7 @@ cell_for k r = in_form (r % 5) k (first_of r) (second_of r)
 
 -- cell k of the notebook of n cells, counted from 1
 abbrev pub cell : ℕ → ℕ → Bytes
-cell n k = cell_for k (drawn (state n k))
+cell n k = cell_for k (drawn (state_for n k))
 
 -- ---- the notebook
 

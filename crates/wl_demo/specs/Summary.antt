@@ -1,10 +1,10 @@
--- What is written of the demonstration's run, in place of its answers.
+-- What is written of the demonstration's run in place of its answers; the lines are this project's own.
 use Rattle.std.specs.Prelude.{ℕ, [], ◌∷◌, ◌++◌, codes, decimal}
 use Rattle.wl_demo.specs.Notebook.{Bytes}
 
-abbrev pub count_line : Bytes → ℕ → Bytes
-count_line name n = name ++ codes " " ++ decimal n ++ 10 ∷ []
-
--- how many cells were played, how many of them were refused, and the steps of all
+-- three lines: how many cells there were, how many of them were refused, and the steps of all
 abbrev pub summary : ℕ → ℕ → ℕ → Bytes
-summary cells refused steps = count_line (codes "cells") cells ++ count_line (codes "refused") refused ++ count_line (codes "steps") steps
+summary cells refused steps =
+    codes "cells " ++ decimal cells
+    ++ 10 ∷ codes "refused " ++ decimal refused
+    ++ 10 ∷ codes "steps " ++ decimal steps ++ 10 ∷ []

@@ -3,10 +3,10 @@
 
 mod cell;
 pub mod laws;
+mod lines;
 mod notebook;
-mod summary;
 #[cfg(test)]
 mod tests;
 
+pub use lines::summary;
 pub use notebook::Notebook;
-pub use summary::summary;

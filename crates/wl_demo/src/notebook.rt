@@ -20,13 +20,13 @@ pub struct Notebook {
 
 impl Model for Notebook {
     ghost use Rattle.std.specs.Prelude.{◌≡◌, ◌≤◌, ◌-◌, List};
-    ghost use Rattle.wl_demo.specs.Notebook.{Bytes, cells_after, state};
+    ghost use Rattle.wl_demo.specs.Notebook.{Bytes, cells_after, state_for};
 
     ghost Value = { List Bytes };
 
     ghost view = { λ b. cells_after b.count b.given (b.count - b.given) };
 
-    ghost invariant = { λ b. (b.given ≤ b.count) × (b.state ≡ state b.count b.given) };
+    ghost invariant = { λ b. (b.given ≤ b.count) × (b.state ≡ state_for b.count b.given) };
 }
 
 impl Notebook {

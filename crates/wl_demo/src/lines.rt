@@ -8,5 +8,9 @@ use std::alloc::{AllocError, Global};
 pub fn summary(alloc: Global, cells: u64, refused: u64, steps: u64) -> Result<String, AllocError>
     ensures { IfOk result (λ text. string_bytes text ≡ summary cells refused steps) }
 {
-    format!(in alloc; "cells {cells}\nrefused {refused}\nsteps {steps}\n")
+    let mut text = String::new(alloc);
+    writeln!(text, "cells {cells}")?;
+    writeln!(text, "refused {refused}")?;
+    writeln!(text, "steps {steps}")?;
+    Ok(text)
 }
