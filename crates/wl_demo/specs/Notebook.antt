@@ -6,7 +6,7 @@ Bytes = List ℕ
 
 -- ---- the drawing
 
--- the linear congruential generator with the constants that many a C library has
+-- a linear congruential generator, with the multiplier and the increment of the sample generator in the C standard
 abbrev pub next_state : ℕ → ℕ
 next_state s = (1103515245 * s + 12345) % 2 ^ 31
 

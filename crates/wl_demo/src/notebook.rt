@@ -1,5 +1,5 @@
 //! The notebook, made cell by cell.
-ghost use Rattle.std.specs.Prelude.{◌≡◌, ◌^◌, ◌<◌, [], ◌∷◌, true, false, IsTrue, IfOk, OnErr, MatchBool, string_bytes};
+ghost use Rattle.std.specs.Prelude.{◌≡◌, [], ◌∷◌, false, IfOk, OnErr, MatchBool, string_bytes};
 ghost use Rattle.wl_demo.specs.Notebook.{next_state, notebook};
 
 use crate::cell::push_cell;
@@ -7,7 +7,9 @@ use std::alloc::AllocError;
 use std::marker::Model;
 
 const MULTIPLIER: u64 = 1_103_515_245;
+
 const INCREMENT: u64 = 12_345;
+
 const MODULUS: u64 = 1 << 31;
 
 /// What is left of a notebook. No cell is kept, so it takes no memory.
