@@ -6,7 +6,8 @@ use Rattle.std.specs.Fmt.{digits, digits_onto, digit_glyph}
 use Rattle.std.specs.List.{list_all, All}
 use Rattle.std.specs.Prelude.{decimal, if◌then◌else◌}
 use Rattle.wl_demo.specs.Laws.{IsLine, is_printable}
-use Rattle.wl_demo.specs.Notebook.{Bytes, in_form, cell, cells_after, drawn, first_of, second_of, state_for}
+use Rattle.wl_demo.proofs.Forms.{in_form_each}
+use Rattle.wl_demo.specs.Notebook.{Bytes, cell, cells_after, drawn, first_of, second_of, state_for}
 
 glyph : (d : ℕ) → d < 10 → is_printable (digit_glyph false d) ≡ true
 glyph d below = grind (arith, nat_tests)
@@ -21,20 +22,11 @@ number : (n : ℕ) → IsLine (decimal n)
 unfolding digits
 number n = digits_onto_line 64 n [] refl
 
-choice : (c : Bool) (s t : Bytes) → IsLine s → IsLine t → IsLine (if c then s else t)
-choice true s t p q = p
-choice false s t p q = q
-
--- each form is texts that compute, and numbers between them
-in_form_line : (form k a b : ℕ) → IsLine (in_form form k a b)
-in_form_line form k a b =
-    choice (form == 0) _ _ (simp (list_all-append, number) refl)
-    (choice (form == 1) _ _ (simp (list_all-append, number) refl)
-    (choice (form == 2) _ _ (simp (list_all-append, number) refl)
-    (choice (form == 3) _ _ (simp (list_all-append, number) refl) (simp (list_all-append, number) refl))))
-
 cell_line : (n k : ℕ) → IsLine (cell n k)
-cell_line n k = let r = drawn (state_for n k) in in_form_line (r % 5) k (first_of r) (second_of r)
+cell_line n k =
+    let r = drawn (state_for n k) in
+    in_form_each IsLine (r % 5) k (first_of r) (second_of r) (simp (list_all-append, number) refl) (simp (list_all-append, number) refl)
+    (simp (list_all-append, number) refl) (simp (list_all-append, number) refl) (simp (list_all-append, number) refl)
 
 pub cells_lines : (n k more : ℕ) → All IsLine (cells_after n k more)
 cells_lines n k zero i d below = absurd (omega (arith, below))

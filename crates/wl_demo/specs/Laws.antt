@@ -1,5 +1,5 @@
 -- Laws of the demonstration notebook.
-use Rattle.std.specs.Prelude.{◌≡◌, ℕ, Bool, true, ◌&&◌, nat_le, [], ◌∷◌, ◌++◌, length, codes, All}
+use Rattle.std.specs.Prelude.{◌≡◌, ℕ, ◌*◌, ◌^◌, ◌<◌, ◌≤◌, Bool, true, ◌&&◌, nat_le, [], ◌∷◌, ◌++◌, length, codes, All}
 use Rattle.std.specs.List.{list_all}
 use Rattle.wl_demo.specs.Notebook.{Bytes, notebook, source}
 use Rattle.wl_demo.specs.Summary.{summary}
@@ -29,3 +29,7 @@ CellsAreCounted = (n : ℕ) → length (notebook n) ≡ n
 -- no cell holds a line feed, so that each is one line of the source
 abbrev pub CellsAreLines : Type 0
 CellsAreLines = (n : ℕ) → All IsLine (notebook n)
+
+-- a cell has 28 bytes at most, and its line feed is one more
+abbrev pub SourceIsShort : Type 0
+SourceIsShort = (n : ℕ) → n < 2 ^ 32 → length (source n) ≤ 29 * n

@@ -1,5 +1,5 @@
 //! Laws of the notebook, each the contract of a function without parameters.
-ghost use Rattle.wl_demo.specs.Laws.{CellsAreCounted, CellsAreLines, WorkedNotebooks, WorkedSummary};
+ghost use Rattle.wl_demo.specs.Laws.{CellsAreCounted, CellsAreLines, SourceIsShort, WorkedNotebooks, WorkedSummary};
 
 /// The first notebooks.
 pub fn worked_notebooks()
@@ -19,4 +19,9 @@ pub fn cells_are_counted()
 /// What stands in a cell: printable characters alone.
 pub fn cells_are_lines()
     ensures { CellsAreLines }
+{}
+
+/// How long a notebook is.
+pub fn source_is_short()
+    ensures { SourceIsShort }
 {}
