@@ -1,3 +1,3 @@
 -- For this crate's own proofs.
-mod Locality
+mod Agreement
 mod Computed

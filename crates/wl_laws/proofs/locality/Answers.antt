@@ -1,4 +1,4 @@
-use Rattle.wl_laws.proofs.Locality as local
+use Rattle.wl_laws.proofs.Agreement as local
 use Rattle.wl_laws.proofs.locality.Goals as goal
 
 pub returns : goal.returns
