@@ -459,7 +459,7 @@ turn::shaped_turn-returns-then-stays-clause-played g t c =
     let vs = trees c.args.values.now in
     let r = c.rules_turn in
     let n = sym c.is_bared-changed.ensures ∙ c.if-not-changed.true in
-    stays_plays a (plain c.args.head.now) vs (plain c.args.first.now) _ c.args.evaluator.now r.result r.new.self n c.requires.first (c.stays.ensures c.if-stays.true (plain c.args.head.now)) c.is_bared-changed.ensures r.ensures.played
+    stays_plays a (plain c.args.head.now) vs (plain c.args.first.now) _ c.args.evaluator.now r.result r.new.evaluator n c.requires.first (c.stays.ensures c.if-stays.true (plain c.args.head.now)) c.is_bared-changed.ensures r.ensures.played
 
 pub turn::shaped_turn-rules_turn-requires-in-Ok-Node : goal.turn::shaped_turn-rules_turn-requires-in-Ok-Node
 turn::shaped_turn-rules_turn-requires-in-Ok-Node g t c κs within =
@@ -502,9 +502,9 @@ turn::shaped_turn-returns-in_ok-issue-in-Ok-Uneven-clause-played g t c =
     let shape : Shaped = shape a (plain c.args.head.now) (bared a vs) in
     let s = subst (λ z. IsShaped shape (Ok z)) c.in-Ok-Uneven.field-0-is c.in-Ok-Uneven.ensures.shaped in
     let q = shape_is shape (variant.Uneven c.in-Ok-Uneven.form) s in
-    let m' = subst (λ b. Played turned (turn.rules_turn a (plain c.args.first.now) b f) k1 r.result r.new.self) c.is_bared-changed.ensures r.ensures.played in
+    let m' = subst (λ b. Played turned (turn.rules_turn a (plain c.args.first.now) b f) k1 r.result r.new.evaluator) c.is_bared-changed.ensures r.ensures.played in
     let m = subst (λ zs. Plays (prog.message (codes "Thread") (codes "tdlen") (trees zs)) k (Ok tt) k1 false) c.from_ref.ensures.value c.in_ok-issue-in-Ok-Uneven.ensures.played in
-    uneven_plays a (plain c.args.first.now) (is_bared a vs) shape k f k1 r.result r.new.self q m m'
+    uneven_plays a (plain c.args.first.now) (is_bared a vs) shape k f k1 r.result r.new.evaluator q m m'
 
 -- ---- the turn of a symbol
 
@@ -2021,8 +2021,8 @@ control_rows::answer-returns-in_err-ask-clause-ready g t c =
     ready_exit c.from_residual.result _ c.from_residual.ensures.1
     (λ n. ready_then x q.taken q.taken c.args.evaluator.now q.evaluator c.asked.new.self q.invariant.ready (ready_large x q.taken q.evaluator c.asked.new.self q.invariant.ready.sound q.invariant.ready.taken (after (stand q.cursor) (told_by q.reply)) _ (c.in_err-ask.ensures.refused _ refl) n))
 
-pub control_rows::answer-reply-requires : goal.control_rows::answer-reply-requires
-control_rows::answer-reply-requires g t c κs within =
+pub control_rows::answer-respond-requires : goal.control_rows::answer-respond-requires
+control_rows::answer-respond-requires g t c κs within =
     let q = c.questions in
     let r = subst (λ z. Ready (option_copied c.args.name) c.args.evaluator.now z q.taken) (sym c.in_ok-ask.ensures.same) q.invariant.ready in
     let h = subst (λ z. HonestAsk z c.in_ok-ask.ask) (sym c.in_ok-ask.ensures.same) (asked_honest q.evaluator q.cursor c.asked.new.cursor q.reply c.in_ok-ask.ask q.invariant.holds c.in_ok-ask.ensures.passed) in
@@ -2036,7 +2036,7 @@ control_rows::answer-returns-in_err-outcome-clause-played g t c row e =
     let a = after (stand q.cursor) (told_by q.reply) in
     let s = stand c.asked.new.cursor in
     let led = subst (λ z. Leads (played x None row) k0 (played x (set_aside x q.taken) a) z) (sym c.in_ok-ask.ensures.same) (q.invariant.leads row e) in
-    finishes_exit x row k0 c.reply.new.evaluator c.reply.new.taken c.from_residual-in_err-outcome.result _ c.from_residual-in_err-outcome.ensures.1
+    finishes_exit x row k0 c.respond.new.evaluator c.respond.new.taken c.from_residual-in_err-outcome.result _ c.from_residual-in_err-outcome.ensures.1
     (c.in_err-outcome.ensures.played row k0 a s led c.in_ok-ask.ensures.posed c.catches-catches.ensures)
 
 pub control_rows::answer-returns-in_err-outcome-clause-ready : goal.control_rows::answer-returns-in_err-outcome-clause-ready
@@ -2045,7 +2045,7 @@ control_rows::answer-returns-in_err-outcome-clause-ready g t c =
     let q = c.questions in
     let k0 = c.args.evaluator.now in
     let r = subst (λ z. Ready x k0 z q.taken) (sym c.in_ok-ask.ensures.same) q.invariant.ready in
-    ready_exit c.from_residual-in_err-outcome.result _ c.from_residual-in_err-outcome.ensures.1 (λ n. ready_then x q.taken c.reply.new.taken k0 c.asked.new.self c.reply.new.evaluator r (c.in_err-outcome.ensures.ready n))
+    ready_exit c.from_residual-in_err-outcome.result _ c.from_residual-in_err-outcome.ensures.1 (λ n. ready_then x q.taken c.respond.new.taken k0 c.asked.new.self c.respond.new.evaluator r (c.in_err-outcome.ensures.ready n))
 
 pub control_rows::answer-questions-preserved : goal.control_rows::answer-questions-preserved
 control_rows::answer-questions-preserved g t c =
@@ -2053,13 +2053,13 @@ control_rows::answer-questions-preserved g t c =
     let q = c.questions in
     let k0 = c.args.evaluator.now in
     let k1 = c.asked.new.self in
-    let k2 = c.reply.new.evaluator in
+    let k2 = c.respond.new.evaluator in
     let same = c.in_ok-ask.ensures.same in
     let a = after (stand q.cursor) (told_by q.reply) in
     let s = stand c.asked.new.cursor in
     let o = c.in_ok-outcome.ensures in
     let led = λ (row : Row) (e : stand c.args.first ≡ starts row). subst (λ z. Leads (played x None row) k0 (played x (set_aside x q.taken) a) z) (sym same) (q.invariant.leads row e) in
-    let goes = λ (row : Row) (e : stand c.args.first ≡ starts row). subst (λ z. Comes x row k0 s (Ok z) k2 c.reply.new.taken) c.in-Goes.is (o.played row k0 a s (led row e) c.in_ok-ask.ensures.posed c.catches-catches.ensures) in
+    let goes = λ (row : Row) (e : stand c.args.first ≡ starts row). subst (λ z. Comes x row k0 s (Ok z) k2 c.respond.new.taken) c.in-Goes.is (o.played row k0 a s (led row e) c.in_ok-ask.ensures.posed c.catches-catches.ensures) in
     let first = starts_row (stand c.args.first) c.requires.awaits in
     let one = goes first.0 first.1 in
     let there = o.ready refl in
@@ -2067,7 +2067,7 @@ control_rows::answer-questions-preserved g t c =
     record {
       leads = λ row e. (goes row e).leads;
       awaited = one.awaited;
-      ready = ready_then x q.taken c.reply.new.taken k0 k1 k2 r1 there;
+      ready = ready_then x q.taken c.respond.new.taken k0 k1 k2 r1 there;
       holds = holds_next q.evaluator k2 q.cursor c.asked.new.cursor q.reply c.in-Goes.next c.in_ok-ask.ask q.invariant.holds c.in_ok-ask.ensures.passed (subst (λ (z : Evaluator). Grows z.store k2.store) same there.grows) one.honest;
       proceeds = proceeds_on q._answered k0.steps q.evaluator.steps k2.steps (omega arith) a (plain_ask c.in_ok-ask.ask) s (told_by c.in-Goes.next) c.in_ok-ask.ensures.posed one.awaited (λ z. let l = o.less z in omega (arith, l)) q.invariant.proceeds;
       falls = omega arith;
@@ -2082,7 +2082,7 @@ control_rows::answer-returns-in-Ends-clause-played g t c row e =
     let a = after (stand q.cursor) (told_by q.reply) in
     let s = stand c.asked.new.cursor in
     let led = subst (λ z. Leads (played x None row) k0 (played x (set_aside x q.taken) a) z) (sym c.in_ok-ask.ensures.same) (q.invariant.leads row e) in
-    subst (λ z. Comes x row k0 s (Ok z) c.reply.new.evaluator c.reply.new.taken) c.in-Ends.is (c.in_ok-outcome.ensures.played row k0 a s led c.in_ok-ask.ensures.posed c.catches-catches.ensures)
+    subst (λ z. Comes x row k0 s (Ok z) c.respond.new.evaluator c.respond.new.taken) c.in-Ends.is (c.in_ok-outcome.ensures.played row k0 a s led c.in_ok-ask.ensures.posed c.catches-catches.ensures)
 
 pub control_rows::answer-returns-in-Ends-clause-ready : goal.control_rows::answer-returns-in-Ends-clause-ready
 control_rows::answer-returns-in-Ends-clause-ready g t c n =
@@ -2090,7 +2090,7 @@ control_rows::answer-returns-in-Ends-clause-ready g t c n =
     let q = c.questions in
     let k0 = c.args.evaluator.now in
     let r = subst (λ z. Ready x k0 z q.taken) (sym c.in_ok-ask.ensures.same) q.invariant.ready in
-    ready_then x q.taken c.reply.new.taken k0 c.asked.new.self c.reply.new.evaluator r (c.in_ok-outcome.ensures.ready refl)
+    ready_then x q.taken c.respond.new.taken k0 c.asked.new.self c.respond.new.evaluator r (c.in_ok-outcome.ensures.ready refl)
 
 pub control_rows::answer-unreachable-requires : goal.control_rows::answer-unreachable-requires
 control_rows::answer-unreachable-requires g t c =
@@ -2107,31 +2107,31 @@ control_rows::caught_end-returns-clause-played g t c =
     let f = (fits_decides (plain c.args.e)).1 c.weight-weight.ensures.fits in
     caught_played (plain c.args.e) c.args.evaluator.now c.evaluate.new.evaluator c.in_ok-end.end c.caught.result f c.in_ok-end.ensures.played c.caught.ensures
 
-pub control_rows::respond-caught-requires : goal.control_rows::respond-caught-requires
-control_rows::respond-caught-requires g t c κs within = (search rules, (within, (c.requires.sound, subst (HonestAsk c.args.evaluator.now) c.in-Eval.is c.requires.honest)))
+pub control_rows::respond-caught_end-requires : goal.control_rows::respond-caught_end-requires
+control_rows::respond-caught_end-requires g t c κs within = (search rules, (within, (c.requires.sound, subst (HonestAsk c.args.evaluator.now) c.in-Eval.is c.requires.honest)))
 
 pub control_rows::respond-returns-in_err-reply-in-Eval-clause-played : goal.control_rows::respond-returns-in_err-reply-in-Eval-clause-played
 control_rows::respond-returns-in_err-reply-in-Eval-clause-played g t c row k a s l p w =
     let x = option_copied c.args.name in
     let u = c.args.taken.now in
-    comes_exit x row k c.caught.new.evaluator s u c.from_residual.result _ c.from_residual.ensures.1
+    comes_exit x row k c.caught_end.new.evaluator s u c.from_residual.result _ c.from_residual.ensures.1
     (caught_stops x row k u a c.args.evaluator.now l (plain c.in-Eval.e) _ (p.question ∙ ap (λ z. Some (plain_ask z)) c.in-Eval.is) (catches_behind a _ s c.args.catches p w c.if-catches.true) c.in_err-reply-in-Eval.ensures.played)
 
 pub control_rows::respond-returns-in_err-reply-in-Eval-clause-ready : goal.control_rows::respond-returns-in_err-reply-in-Eval-clause-ready
 control_rows::respond-returns-in_err-reply-in-Eval-clause-ready g t c =
     ready_exit c.from_residual.result _ c.from_residual.ensures.1
-    (ready_stop (option_copied c.args.name) c.args.taken.now c.args.evaluator.now c.caught.new.evaluator c.requires.sound c.requires.taken caught_reply _ _ c.in_err-reply-in-Eval.ensures.played)
+    (ready_stop (option_copied c.args.name) c.args.taken.now c.args.evaluator.now c.caught_end.new.evaluator c.requires.sound c.requires.taken caught_reply _ _ c.in_err-reply-in-Eval.ensures.played)
 
 pub control_rows::respond-returns-then-catches-clause-played : goal.control_rows::respond-returns-then-catches-clause-played
 control_rows::respond-returns-then-catches-clause-played g t c row k a s l p w =
     let x = option_copied c.args.name in
     let u = c.args.taken.now in
     let r = c.in_ok-reply-in-Eval.reply in
-    comes_at x row k a _ s (Ok (outcome.Goes r)) c.caught.new.evaluator u p
+    comes_at x row k a _ s (Ok (outcome.Goes r)) c.caught_end.new.evaluator u p
     (caught_goes x row k u a c.args.evaluator.now l (plain c.in-Eval.e) r (p.question ∙ ap (λ z. Some (plain_ask z)) c.in-Eval.is) (catches_behind a _ s c.args.catches p w c.if-catches.true) c.in_ok-reply-in-Eval.ensures.played)
 
 pub control_rows::respond-returns-then-catches-clause-ready : goal.control_rows::respond-returns-then-catches-clause-ready
-control_rows::respond-returns-then-catches-clause-ready g t c n = ready_at (option_copied c.args.name) c.args.taken.now c.args.evaluator.now c.caught.new.evaluator c.requires.sound c.requires.taken c.in_ok-reply-in-Eval.ensures.played.0
+control_rows::respond-returns-then-catches-clause-ready g t c n = ready_at (option_copied c.args.name) c.args.taken.now c.args.evaluator.now c.caught_end.new.evaluator c.requires.sound c.requires.taken c.in_ok-reply-in-Eval.ensures.played.0
 
 pub control_rows::respond-value_of_built-requires : goal.control_rows::respond-value_of_built-requires
 control_rows::respond-value_of_built-requires g t c κs within = (search rules, (within, (c.requires.sound, subst (HonestAsk c.args.evaluator.now) c.in-Eval.is c.requires.honest)))
