@@ -1,14 +1,14 @@
 -- What the words of a command line ask for. This project's own.
-use Rattle.std.specs.Prelude.{ℕ, List, [], ◌∷◌, Option, Some, None, codes, option_and_then, option_map, if◌then◌else◌}
+use Rattle.std.specs.Prelude.{ℕ, List, [], ◌∷◌, Option, Some, None, codes, option_map, if◌then◌else◌}
 use Rattle.std.specs.Str.{bytes_eq}
 use Rattle.clap.specs.Words.{Row, Kinds, fault_of, first_of, matches_of}
 use Rattle.wl_words.specs.Command.{command}
 use Rattle.wl_words.specs.Numbers.{number}
-use Rattle.wl_words.specs.declared.words.Form.{Form}
-use Rattle.wl_words.specs.declared.words.Form.TheVariants.{Input, Full}
-use Rattle.wl_words.specs.declared.words.Task.TheVariants as code
-use Rattle.wl_words.specs.declared.words.Task as declared_task
-use Rattle.wl_words.specs.declared.words.Words as declared_words
+use Rattle.wl_words.specs.declared.line.Form.{Form}
+use Rattle.wl_words.specs.declared.line.Form.TheVariants.{Input, Full}
+use Rattle.wl_words.specs.declared.line.Task.TheVariants as code
+use Rattle.wl_words.specs.declared.line.Task as declared_task
+use Rattle.wl_words.specs.declared.line.Words as declared_words
 
 -- ---- what is asked for
 
@@ -66,14 +66,16 @@ task_from (Some text) (Some name) = None
 
 -- ---- the command line
 
-abbrev pub words_of_values : Option (List ℕ) → Option (List ℕ) → Option (List ℕ) → Option Task → Option Words
-words_of_values steps total form task =
-    option_and_then (λ n. option_and_then (λ m. option_and_then (λ f. option_map (λ t.
-    record { steps = n; total = m; form = f; task = t }) task) (form_from form)) (total_from total)) (steps_from steps)
+abbrev pub words_of_values : Option ℕ → Option (Option ℕ) → Option Form → Option Task → Option Words
+words_of_values (Some n) (Some m) (Some f) (Some t) = Some (record { steps = n; total = m; form = f; task = t })
+words_of_values _ _ _ _ = None
 
 -- the matches of `clap`, row by row
 abbrev pub words_of_matches : List Row → Option Words
-words_of_matches rows = words_of_values (first_of (codes "steps") rows) (first_of (codes "total") rows) (first_of (codes "form") rows)
+words_of_matches rows = words_of_values
+    (steps_from (first_of (codes "steps") rows))
+    (total_from (first_of (codes "total") rows))
+    (form_from (first_of (codes "form") rows))
     (task_from (first_of (codes "demo") rows) (first_of (codes "file") rows))
 
 abbrev pub unless_faulty : Kinds → Option Words → Option Words

@@ -1,5 +1,5 @@
 //! The command line, as `clap` is told of it.
-ghost use Rattle.std.specs.Prelude.{◌≡◌, OnOk, Some, codes};
+ghost use Rattle.std.specs.Prelude.{◌≡◌, IfOk, Some, codes, false};
 ghost use Rattle.clap.specs.Words.{app_of, rule_of};
 ghost use Rattle.wl_words.specs.Command.{bare, command, option};
 
@@ -9,7 +9,8 @@ use wl_ports::Memory;
 
 /// An option with one value, which its id names.
 fn option<'a>(alloc: Global, name: &'a str) -> Arg<'a>
-    ensures { rule_of result ≡ option name.now }
+    ensures rule { rule_of result ≡ option name.now }
+    ensures local { result.global ≡ false }
 {
     Arg::new(alloc, name).long(name)
 }
@@ -26,7 +27,7 @@ fn bare<'a>(alloc: Global) -> Command<'a>
 
 /// The command with its four options and the name of a file.
 pub(crate) fn command<'a>(alloc: Global) -> Result<Command<'a>, Memory>
-    ensures { OnOk result (λ c. app_of c ≡ command) }
+    ensures { IfOk result (λ c. app_of c ≡ command) }
 {
     let command = bare(alloc)
         .arg(option(alloc, "steps"))?

@@ -3,12 +3,12 @@
 
 mod command;
 pub mod laws;
+mod line;
 mod number;
-mod read;
-mod words;
+mod reading;
 
-pub use read::read;
-pub use words::{Form, Task, Words};
+pub use line::{Form, Task, Words};
+pub use reading::read;
 
 #[cfg(test)]
 mod tests;

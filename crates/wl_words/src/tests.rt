@@ -14,22 +14,32 @@ fn line(alloc: Global, texts: &[&str]) -> Result<Vec<String>, std::alloc::AllocE
 #[test]
 fn words_are_read(rt: HostRuntime) {
     let alloc = rt.alloc();
-    let words = line(alloc, ["--steps=0006", "--form", "full", "--total", "70", "-"].as_slice()).expect(&rt, "memory");
+    let words = line(
+        alloc,
+        ["--steps=0006", "--form", "full", "--total", "70", "-"].as_slice(),
+    )
+    .expect(&rt, "memory");
     let read_words = read(alloc, words.as_slice()).expect(&rt, "memory");
-    assert!(rt; read_words == Some(Words {
-        steps: 6,
-        total: Some(70),
-        form: Form::Full,
-        task: Task::File("-"),
-    }));
+    assert!(rt;
+        read_words
+            == Some(Words {
+                steps: 6,
+                total: Some(70),
+                form: Form::Full,
+                task: Task::File("-"),
+            })
+    );
     let words = line(alloc, ["--demo", "20000"].as_slice()).expect(&rt, "memory");
     let read_words = read(alloc, words.as_slice()).expect(&rt, "memory");
-    assert!(rt; read_words == Some(Words {
-        steps: 10_000_000,
-        total: None,
-        form: Form::Input,
-        task: Task::Demo(20_000),
-    }));
+    assert!(rt;
+        read_words
+            == Some(Words {
+                steps: 10_000_000,
+                total: None,
+                form: Form::Input,
+                task: Task::Demo(20_000),
+            })
+    );
 }
 
 /// A wrong use.

@@ -4,8 +4,8 @@ ghost use Rattle.clap.specs.Words.{found_of, rows_of};
 ghost use Rattle.wl_words.specs.Words.{form_from, steps_from, task_from, task_of, total_from, words_of, words_of_matches, words_read};
 
 use crate::command::command;
+use crate::line::{Form, Task, Words};
 use crate::number::number;
-use crate::words::{Form, Task, Words};
 use clap::ArgMatches;
 use clap::error::ErrorKind;
 use std::alloc::Global;
@@ -21,7 +21,7 @@ const GREATEST_STEPS: u64 = 1_000_000_000_000;
 const GREATEST_DEMO: u64 = 20_000;
 
 fn steps_from(text: Option<&str>) -> Option<u64>
-    ensures { result ≡ steps_from (option_copied text.now) }
+    ensures { result ≡ steps_from (option_copied text.entry) }
 {
     match text {
         None => Some(STEPS),
@@ -30,7 +30,7 @@ fn steps_from(text: Option<&str>) -> Option<u64>
 }
 
 fn total_from(text: Option<&str>) -> Option<Option<u64>>
-    ensures { result ≡ total_from (option_copied text.now) }
+    ensures { result ≡ total_from (option_copied text.entry) }
 {
     match text {
         None => Some(None),
@@ -39,7 +39,7 @@ fn total_from(text: Option<&str>) -> Option<Option<u64>>
 }
 
 fn form_from(text: Option<&str>) -> Option<Form>
-    ensures { result ≡ form_from (option_copied text.now) }
+    ensures { result ≡ form_from (option_copied text.entry) }
 {
     match text {
         None | Some("input") => Some(Form::Input),
@@ -49,7 +49,7 @@ fn form_from(text: Option<&str>) -> Option<Form>
 }
 
 fn task_from<'a>(demo: Option<&str>, file: Option<&'a str>) -> Option<Task<'a>>
-    ensures { option_map task_of result ≡ task_from (option_copied demo.now) (option_copied file.now) }
+    ensures { option_map task_of result ≡ task_from (option_copied demo.entry) (option_copied file.entry) }
 {
     match (demo, file) {
         (None, None) => Some(Task::StandardInput),
