@@ -1,3 +1,5 @@
 mod Numerals
 mod Matches
 mod Told
+mod Lines
+mod PlainWord
