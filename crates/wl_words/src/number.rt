@@ -25,11 +25,8 @@ pub(crate) fn number(text: &str, greatest: u64) -> Option<u64>
         return None;
     }
     match text.parse::<u64>() {
-        Ok(n) => if 1 <= n && n <= greatest {
-            Some(n)
-        } else {
-            None
-        },
+        Ok(n) if 1 <= n && n <= greatest => Some(n),
+        Ok(_) => None,
         Err(_) => None,
     }
 }
