@@ -3,3 +3,4 @@ mod Matches
 mod Told
 mod Lines
 mod PlainWord
+mod OneOption

@@ -1,8 +1,9 @@
 -- Laws of command lines.
-use Rattle.std.specs.Prelude.{◌≡◌, ℕ, Bool, true, false, List, [], ◌∷◌, ◌==◌, Some, None, codes}
+use Rattle.std.specs.Prelude.{◌++◌, option_map, ◌≡◌, ℕ, Bool, true, false, List, [], ◌∷◌, ◌==◌, Some, None, codes}
 use Rattle.clap.specs.Words.{is_simple_and_free}
 use Rattle.wl_words.specs.Command.{command}
-use Rattle.wl_words.specs.Words.{Words, standard_input, file, demo, defaults, words_read}
+use Rattle.wl_words.specs.Numbers.{number}
+use Rattle.wl_words.specs.Words.{Words, standard_input, file, demo, defaults, form_from, greatest_demo, greatest_steps, words_read}
 use Rattle.wl_words.specs.declared.line.Form.TheVariants.{Input, Full}
 
 -- `clap` states exactly what it reads
@@ -25,6 +26,23 @@ ReadsPlainWord = (word : List ℕ) → begins_with_dash word ≡ false → words
 abbrev pub ReadsTrailingWord : Type 0
 ReadsTrailingWord = (word : List ℕ) → words_read (codes "--" ∷ word ∷ []) ≡ Some (defaults (file word))
 
+abbrev pub on_input : Words
+on_input = defaults standard_input
+
+-- ---- an option alone, with each text for its value
+
+abbrev pub ReadsSteps : Type 0
+ReadsSteps = (text : List ℕ) → words_read ((codes "--steps=" ++ text) ∷ []) ≡ option_map (λ n. record on_input { steps = n }) (number greatest_steps text)
+
+abbrev pub ReadsTotal : Type 0
+ReadsTotal = (text : List ℕ) → words_read ((codes "--total=" ++ text) ∷ []) ≡ option_map (λ n. record on_input { total = Some n }) (number greatest_steps text)
+
+abbrev pub ReadsForm : Type 0
+ReadsForm = (text : List ℕ) → words_read ((codes "--form=" ++ text) ∷ []) ≡ option_map (λ f. record on_input { form = f }) (form_from (Some text))
+
+abbrev pub ReadsDemo : Type 0
+ReadsDemo = (text : List ℕ) → words_read ((codes "--demo=" ++ text) ∷ []) ≡ option_map (λ n. defaults (demo n)) (number greatest_demo text)
+
 -- ---- worked command lines
 
 abbrev pub Reads : List (List ℕ) → Words → Type 0
@@ -32,9 +50,6 @@ Reads words asked = words_read words ≡ Some asked
 
 abbrev pub Refuses : List (List ℕ) → Type 0
 Refuses words = words_read words ≡ None
-
-abbrev pub on_input : Words
-on_input = defaults standard_input
 
 abbrev pub WorkedSteps : Type 0
 WorkedSteps = Reads (codes "--steps" ∷ codes "6" ∷ []) (record on_input { steps = 6 })
