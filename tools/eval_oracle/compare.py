@@ -5,7 +5,7 @@
 Each session becomes a row that holds by computing with the definition: the value of each cell, its items, the steps, the names read
 in order, whether there was an effect, the deepest depth and the most turns are those that the oracle says. The rows stand in
 files of their own in a copy of the crates, which `rt check` reads; nothing here is changed. It is fast where `rt check` has run in
-crates/wl_eval before. Where the text of an item doesn't compute, the number of the items is compared.
+crates/wl_laws before. Where the text of an item doesn't compute, the number of the items is compared.
 """
 import pathlib
 import re
@@ -23,7 +23,7 @@ use Rattle.std.specs.Prelude.{◌≡◌, true, false, [], ◌∷◌, refl, codes
 use Rattle.wl_expr.specs.Tree.{num}
 use Rattle.wl_expr.specs.Words.{applied, natural, whole}
 use Rattle.wl_rules.specs.Start.{words}
-use Rattle.wl_eval.specs.Cells.{cells, briefs, name, string, call}
+use Rattle.wl_laws.specs.Cells.{cells, briefs, name, string, call}
 
 '''
 
@@ -40,14 +40,14 @@ def row(n, cells, steps):
 
 
 def copy_of_crates(folder):
-    """wl_eval and what it stands on, with the libraries that are built."""
+    """wl_laws and what it stands on, with the libraries that are built."""
     lines = [line for line in (ROOT / "crates.txt").read_text().splitlines() if line and not line.startswith("#")]
     below = {line.split(":")[0]: line.split(":")[1].split() for line in lines}
-    names = [name for name in below if name in ("wl_eval", *below["wl_eval"])]
+    names = [name for name in below if name in ("wl_laws", *below["wl_laws"])]
     (folder / "crates.txt").write_text("".join("%s: %s\n" % (name, " ".join(below[name])) for name in names))
     for name in names:
         shutil.copytree(ROOT / "crates" / name, folder / "crates" / name, ignore=shutil.ignore_patterns("incremental"))
-    return folder / "crates" / "wl_eval"
+    return folder / "crates" / "wl_laws"
 
 
 def add_rows(crate, rows):

@@ -1,4 +1,4 @@
-"""Sessions of the oracle, written as rows that the definition of wl_eval computes."""
+"""Sessions of the oracle, written as rows that the definition of wl_semantics computes."""
 import pathlib
 import sys
 from fractions import Fraction

@@ -1,15 +1,15 @@
-"""Writes the worked cells of wl_eval: what the definition gives for them is what the oracle gives.
+"""Writes the worked cells of wl_laws: what the definition gives for them is what the oracle gives.
 
     python3 tools/eval_oracle/worked.py
 
-It writes crates/wl_eval/specs/WorkedCells.antt (the statements) and crates/wl_eval/proofs/Computed.antt (their proofs, by computing)
+It writes crates/wl_laws/specs/WorkedCells.antt (the statements) and crates/wl_laws/proofs/Computed.antt (their proofs, by computing)
 and lays them out by `rt fmt`. To work another session, add it to SESSIONS and run this again.
 """
 import subprocess
 
 from definition_rows import ROOT, equation
 
-CRATE = ROOT / "crates" / "wl_eval"
+CRATE = ROOT / "crates" / "wl_laws"
 
 # a name, the cells, the steps of each cell, and whether the items are compared whole or by their number
 SESSIONS = [
@@ -74,13 +74,13 @@ use Rattle.std.specs.Prelude.{◌≡◌, true, false, [], ◌∷◌, codes, pos,
 use Rattle.wl_expr.specs.Tree.{num}
 use Rattle.wl_expr.specs.Words.{applied, natural, whole}
 use Rattle.wl_rules.specs.Start.{words}
-use Rattle.wl_eval.specs.Cells.{cells, briefs, name, string, call}
+use Rattle.wl_laws.specs.Cells.{cells, briefs, name, string, call}
 
 '''
 PROOFS = '''-- The worked cells, computed. tools/eval_oracle/worked.py writes this file.
 use Rattle.std.proofs.Common.{refl}
-use Rattle.wl_eval.specs.Cells.{cells}
-use Rattle.wl_eval.specs.WorkedCells.{%s}
+use Rattle.wl_laws.specs.Cells.{cells}
+use Rattle.wl_laws.specs.WorkedCells.{%s}
 
 '''
 

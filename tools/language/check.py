@@ -1,6 +1,6 @@
-"""Checks docs/LANGUAGE.md, so that it can't drift.
+"""Checks docs/LANGUAGE.md and docs/TOUR.md, so that they can't drift.
 
-    python3 tools/language/check.py [--program PROGRAM] [DOCUMENT]
+    python3 tools/language/check.py [--program PROGRAM] [DOCUMENT ..]
 
 - The examples: each fenced block `wl` is a session of its own, with the words of the command line behind `wl`. A line
   `In[n]:= cell` has a cell, which goes on over the next lines that begin with a blank; the lines behind it are what the
@@ -25,7 +25,7 @@ CRATES = ROOT / "crates"
 START = CRATES / "wl_rules" / "specs" / "Start.antt"
 LIMITS = {"$RecursionLimit", "$IterationLimit"}
 # crates and files that the document names before they are there
-COMING = {"wl_poly", "wl_strings", "wl_eval/RestoreRow"}
+COMING = {"wl_poly", "wl_strings", "wl_semantics/RestoreRow"}
 
 Block = collections.namedtuple("Block", "line words text cells")
 Oracle = collections.namedtuple("Oracle", "cells session wl words")
@@ -172,12 +172,13 @@ def missing_files(document):
 
 
 def main():
-    words = argparse.ArgumentParser(description="Checks docs/LANGUAGE.md.")
+    words = argparse.ArgumentParser(description="Checks docs/LANGUAGE.md and docs/TOUR.md.")
     words.add_argument("--program", help="the built wl, in place of tools/oracle")
-    words.add_argument("document", nargs="?", default=ROOT / "docs" / "LANGUAGE.md", type=pathlib.Path)
+    words.add_argument("documents", nargs="*", default=[ROOT / "docs" / "LANGUAGE.md", ROOT / "docs" / "TOUR.md"], type=pathlib.Path)
     given = words.parse_args()
-    document = given.document.read_text()
-    found = blocks(document)
+    texts = [document.read_text() for document in given.documents]
+    document = "\n".join(texts)
+    found = [block for text in texts for block in blocks(text)]
     wrong = 0
     for block, here, there in differing_blocks(found, given.program):
         if here != there:

@@ -11,15 +11,15 @@ use Rattle.wl_rules.specs.Start.{SymbolRow, MessageText, with_texts, message_row
 use Rattle.wl_rules.specs.Stored.{Stored, Slot, row_at, definitions}
 use Rattle.wl_rules.specs.declared.rule.Rule.{Rule}
 use Rattle.wl_rules.specs.declared.rule.RuleKind.TheVariants.{Own, Down, Up, Sub}
-use Rattle.wl_eval.specs.Eval.{number_in}
-use Rattle.wl_eval.specs.Honest.{HonestRule, HonestRules, HonestStore}
-use Rattle.wl_eval.specs.LeftSides.{recursion_limit, iteration_limit}
-use Rattle.wl_eval.specs.Logs.{IsLogOf}
-use Rattle.wl_eval.specs.Played.{Sound, HonestLine}
-use Rattle.wl_eval.specs.declared.evaluator.Evaluator.{Evaluator}
-use Rattle.wl_eval.specs.declared.evaluator.Line.{Line}
-use Rattle.wl_eval.proofs.Changing.{no_rules_honest}
-use Rattle.wl_eval.proofs.Playing.{began_none}
+use Rattle.wl_semantics.specs.Eval.{number_in}
+use Rattle.wl_state.specs.Honest.{HonestRule, HonestRules, HonestStore}
+use Rattle.wl_semantics.specs.LeftSides.{recursion_limit, iteration_limit}
+use Rattle.wl_state.specs.Logs.{IsLogOf}
+use Rattle.wl_state.specs.Played.{Sound, HonestLine}
+use Rattle.wl_state.specs.declared.evaluator.Evaluator.{Evaluator}
+use Rattle.wl_state.specs.declared.evaluator.Line.{Line}
+use Rattle.wl_state.proofs.Changing.{no_rules_honest}
+use Rattle.wl_state.proofs.Playing.{began_none}
 
 -- ---- names stand once
 

@@ -21,34 +21,34 @@ use Rattle.wl_expr.specs.Tree.{Tree}
 use Rattle.wl_expr.specs.Words.{Name, fits}
 use Rattle.wl_expr.specs.declared.fault.ExprFault.{ExprFault}
 use Rattle.wl_expr.specs.declared.fault.ExprFault.TheVariants as fault
-use Rattle.wl_eval.specs.State as spec
-use Rattle.wl_eval.specs.State.{State, End}
-use Rattle.wl_eval.specs.Prog as prog
-use Rattle.wl_eval.specs.Prog.{Prog, done, ◌>>=◌, ended, now, sized, end_of, value_of, value_of_built, tick, entry_of, is_protected}
-use Rattle.wl_eval.specs.Match as match
-use Rattle.wl_eval.specs.Control as control
-use Rattle.wl_eval.specs.Control.{Stood, stood, played, caught, end_of_built, set_iterator, give_back_taken, finished, iterated}
-use Rattle.wl_eval.specs.Honest.{Grows}
-use Rattle.wl_eval.specs.Parts.{sized_row}
-use Rattle.wl_eval.specs.Played as seen
-use Rattle.wl_eval.specs.Played.{Seen, Plays, Leads, Played, Ended, Honest, AllHonest, HonestMaybe, Sound, TooLarge, FaultStops, found_tree, itself}
-use Rattle.wl_eval.specs.Replies.{HonestReply, ReplyIsFrom, HonestAsk, Holds, IsBounded, IsCaught, Proceeds, caught_of, caught_reply, is_memory, stops_by_memory, set_aside, AreTaken, Ready, IsPosed, Finishes, Goes, Comes, IsRefused}
-use Rattle.wl_eval.specs.declared.ends.End as ends
-use Rattle.wl_eval.specs.declared.ends.End.TheVariants as end
-use Rattle.wl_eval.specs.declared.ends.Stop.{Stop}
-use Rattle.wl_eval.specs.declared.ends.Stop.TheVariants as stops
-use Rattle.wl_eval.specs.declared.evaluator.Evaluator.{Evaluator}
-use Rattle.wl_eval.specs.declared.evaluator.Taken.{Taken}
-use Rattle.wl_eval.specs.declared.replies.Reply.{Reply}
-use Rattle.wl_eval.specs.declared.replies.Reply.TheVariants as reply
-use Rattle.wl_eval.specs.declared.replies.Outcome.{Outcome}
-use Rattle.wl_eval.proofs.Answering.{OptionFits, beyond, within, from_honest, row_plays, row_stops, row_large}
+use Rattle.wl_semantics.specs.State as spec
+use Rattle.wl_semantics.specs.State.{State, End}
+use Rattle.wl_semantics.specs.Prog as prog
+use Rattle.wl_semantics.specs.Prog.{Prog, done, ◌>>=◌, ended, now, sized, end_of, value_of, value_of_built, tick, entry_of, is_protected}
+use Rattle.wl_semantics.specs.Match as match
+use Rattle.wl_semantics.specs.Control as control
+use Rattle.wl_semantics.specs.Control.{Stood, stood, played, caught, end_of_built, set_iterator, give_back_taken, finished, iterated}
+use Rattle.wl_state.specs.Honest.{Grows}
+use Rattle.wl_state.specs.Parts.{sized_row}
+use Rattle.wl_state.specs.Played as seen
+use Rattle.wl_state.specs.Played.{Seen, Plays, Leads, Played, Ended, Honest, AllHonest, HonestMaybe, Sound, TooLarge, FaultStops, found_tree, itself}
+use Rattle.wl_state.specs.Replies.{HonestReply, ReplyIsFrom, HonestAsk, Holds, IsBounded, IsCaught, Proceeds, caught_of, caught_reply, is_memory, stops_by_memory, set_aside, AreTaken, Ready, IsPosed, Finishes, Goes, Comes, IsRefused}
+use Rattle.wl_state.specs.declared.ends.End as ends
+use Rattle.wl_state.specs.declared.ends.End.TheVariants as end
+use Rattle.wl_state.specs.declared.ends.Stop.{Stop}
+use Rattle.wl_state.specs.declared.ends.Stop.TheVariants as stops
+use Rattle.wl_state.specs.declared.evaluator.Evaluator.{Evaluator}
+use Rattle.wl_state.specs.declared.evaluator.Taken.{Taken}
+use Rattle.wl_state.specs.declared.replies.Reply.{Reply}
+use Rattle.wl_state.specs.declared.replies.Reply.TheVariants as reply
+use Rattle.wl_state.specs.declared.replies.Outcome.{Outcome}
+use Rattle.wl_state.proofs.Answering.{OptionFits, beyond, within, from_honest, row_plays, row_stops, row_large}
 use Rattle.wl_eval.proofs.Driving.{drive_eval, drive_catching, drive_matches, drive_pass, drive_let, finished_answers, finished_stops}
-use Rattle.wl_eval.proofs.Fitting.{plays_fits, sized_large, too_large_played}
-use Rattle.wl_eval.proofs.IteratorParts.{are_later}
-use Rattle.wl_eval.proofs.Playing.{plays_bind, plays_done, plays_now}
-use Rattle.wl_eval.proofs.Rows.{later, leads_on, leads_bind, played_bind, played_stop}
-use Rattle.wl_eval.proofs.Stores.{grows_refl, grows_trans, honest_grows}
+use Rattle.wl_state.proofs.Fitting.{plays_fits, sized_large, too_large_played}
+use Rattle.wl_state.proofs.IteratorParts.{are_later}
+use Rattle.wl_state.proofs.Playing.{plays_bind, plays_done, plays_now}
+use Rattle.wl_state.proofs.Rows.{later, leads_on, leads_bind, played_bind, played_stop}
+use Rattle.wl_state.proofs.Stores.{grows_refl, grows_trans, honest_grows}
 use Rattle.wl_eval.proofs.Swapping.{swapped}
 
 -- ---- which questions there are

@@ -5,19 +5,19 @@ use Rattle.wl_expr.specs.Stamped as stamped
 use Rattle.wl_expr.specs.Stamped.{Stamped, plain}
 use Rattle.wl_expr.specs.Tree.{Tree, num, text, symbol, node}
 use Rattle.wl_expr.specs.Words.{Name, fits}
-use Rattle.wl_eval.specs.Prog.{Prog, ◌>>=◌, value_of, unchanged, result}
-use Rattle.wl_eval.specs.Definitions.{LeftSide, changing_by, stepping, changing, after, plus, set, set_row, set_delayed_row, up_set_row, up_set_delayed_row, tag_set_row, tag_set_delayed_row, unset_row, tag_unset_row, delayed, define, define_up, define_tagged, prepared, unset_target, unset_tagged, tagged}
-use Rattle.wl_eval.specs.Operands.{taken_answer, two_trees}
-use Rattle.wl_eval.specs.Parts.{sized_row}
-use Rattle.wl_eval.specs.Played.{Played, Plays, Honest, found_tree, itself}
-use Rattle.wl_eval.specs.Prepared.{only_tree, name_and_one, name_and_two, refusal_name}
-use Rattle.wl_eval.specs.declared.evaluator.Evaluator.{Evaluator}
-use Rattle.wl_eval.specs.declared.ends.Stop.{Stop}
-use Rattle.wl_eval.proofs.Matches.{exit}
-use Rattle.wl_eval.proofs.Playing.{plays_bind, plays_done}
-use Rattle.wl_eval.proofs.RowParts.{row_stays, row_gives}
-use Rattle.wl_eval.proofs.Rows.{played_bind, played_stop}
-use Rattle.wl_eval.proofs.Setting.{row_taken}
+use Rattle.wl_semantics.specs.Prog.{Prog, ◌>>=◌, value_of, unchanged, result}
+use Rattle.wl_semantics.specs.Definitions.{LeftSide, changing_by, stepping, changing, after, plus, set, set_row, set_delayed_row, up_set_row, up_set_delayed_row, tag_set_row, tag_set_delayed_row, unset_row, tag_unset_row, delayed, define, define_up, define_tagged, prepared, unset_target, unset_tagged, tagged}
+use Rattle.wl_state.specs.Operands.{taken_answer, two_trees}
+use Rattle.wl_state.specs.Parts.{sized_row}
+use Rattle.wl_state.specs.Played.{Played, Plays, Honest, found_tree, itself}
+use Rattle.wl_state.specs.Prepared.{only_tree, name_and_one, name_and_two, refusal_name}
+use Rattle.wl_state.specs.declared.evaluator.Evaluator.{Evaluator}
+use Rattle.wl_state.specs.declared.ends.Stop.{Stop}
+use Rattle.wl_state.proofs.Matches.{exit}
+use Rattle.wl_state.proofs.Playing.{plays_bind, plays_done}
+use Rattle.wl_state.proofs.RowParts.{row_stays, row_gives}
+use Rattle.wl_state.proofs.Rows.{played_bind, played_stop}
+use Rattle.wl_state.proofs.Setting.{row_taken}
 use Rattle.wl_assign.specs.Targets.{target}
 
 -- a row by what was read in its elements

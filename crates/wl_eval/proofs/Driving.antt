@@ -4,21 +4,21 @@ use Rattle.wl_control.specs.Asks.{Asks, eval, eval_catching, matches, let_be, pa
 use Rattle.wl_expr.specs.Stamped.{plain}
 use Rattle.wl_expr.specs.Tree.{Tree}
 use Rattle.wl_expr.specs.Words.{Name}
-use Rattle.wl_eval.specs.State as spec
-use Rattle.wl_eval.specs.State.{End}
-use Rattle.wl_eval.specs.Prog.{Prog, ◌>>=◌, ended, now, value_of_built, tick}
-use Rattle.wl_eval.specs.Match as match
-use Rattle.wl_eval.specs.Scoping.{Taken}
-use Rattle.wl_eval.specs.Control.{Stood, stood, played, end_of_built, set_iterator, give_back_taken, finished}
-use Rattle.wl_eval.specs.Local.{is_budget}
-use Rattle.wl_eval.specs.Played.{Plays, Leads, Played, Seen}
-use Rattle.wl_eval.specs.declared.evaluator.Evaluator.{Evaluator}
-use Rattle.wl_eval.specs.declared.ends.Stop.{Stop}
-use Rattle.wl_eval.specs.declared.ends.Stop.TheVariants as stops
-use Rattle.wl_eval.proofs.Bind.{or_none}
-use Rattle.wl_eval.proofs.Holding.{plays_ended}
-use Rattle.wl_eval.proofs.Playing.{plays_bind, plays_done, plays_now}
-use Rattle.wl_eval.proofs.Rows.{later, option_later}
+use Rattle.wl_semantics.specs.State as spec
+use Rattle.wl_semantics.specs.State.{End}
+use Rattle.wl_semantics.specs.Prog.{Prog, ◌>>=◌, ended, now, value_of_built, tick}
+use Rattle.wl_semantics.specs.Match as match
+use Rattle.wl_semantics.specs.Scoping.{Taken}
+use Rattle.wl_semantics.specs.Control.{Stood, stood, played, end_of_built, set_iterator, give_back_taken, finished}
+use Rattle.wl_semantics.specs.Local.{is_budget}
+use Rattle.wl_state.specs.Played.{Plays, Leads, Played, Seen}
+use Rattle.wl_state.specs.declared.evaluator.Evaluator.{Evaluator}
+use Rattle.wl_state.specs.declared.ends.Stop.{Stop}
+use Rattle.wl_state.specs.declared.ends.Stop.TheVariants as stops
+use Rattle.wl_semantics.proofs.Bind.{or_none}
+use Rattle.wl_state.proofs.Holding.{plays_ended}
+use Rattle.wl_state.proofs.Playing.{plays_bind, plays_done, plays_now}
+use Rattle.wl_state.proofs.Rows.{later, option_later}
 
 no_or : (a b : Bool) → (a || false) ≡ false → (a || b) ≡ b
 no_or true b e = absurd (true≢false e)

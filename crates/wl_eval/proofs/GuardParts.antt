@@ -14,24 +14,24 @@ use Rattle.wl_shape.specs.Scopes as scopes
 use Rattle.wl_shape.specs.Scopes.{Needs, names, values, locals}
 use Rattle.wl_shape.specs.Sizes.{AreLeaves}
 use Rattle.wl_shape.proofs.FillDepth.{fill-depth}
-use Rattle.wl_eval.specs.State.{World, State, End, Value, Thrown, Aborted, BudgetEnded, Broke, Continued}
-use Rattle.wl_eval.specs.Prog.{Prog, done, ◌>>=◌, value_of, end_of, now, valued, sized, asking, draw, number}
-use Rattle.wl_eval.specs.Eval.{Eval, Turns, interp, one_eval, turn_on, eval_on, final, opened}
-use Rattle.wl_eval.specs.LocalNames.{IsShallow, AreShallow, locals_in, scope_parts, with_body_of}
-use Rattle.wl_eval.specs.Match.{Scope, of_module, of_with, of_block, no_scope, with_locals, scope_named, is_scope, guard_within, guard_by, scope, is_condition, is_guarded, condition_result}
-use Rattle.wl_eval.specs.Operands.{two_trees}
-use Rattle.wl_eval.specs.Played.{Plays, Played, Seen, built, found_tree, honest_tree, state}
-use Rattle.wl_eval.specs.Scoping as scoping
-use Rattle.wl_eval.specs.Scoping.{names_of, values_of}
-use Rattle.wl_eval.specs.Guards.{module_guard, with_guard, block_guard}
-use Rattle.wl_eval.specs.declared.evaluator.Evaluator.{Evaluator}
-use Rattle.wl_eval.specs.declared.ends.Stop.{Stop}
-use Rattle.wl_eval.specs.declared.locals.Local.{Local}
-use Rattle.wl_eval.proofs.Equations.{guard-end, guard-round}
-use Rattle.wl_eval.proofs.Keeps.{Eval-adds}
-use Rattle.wl_eval.proofs.Level.{Eval-is, Turns-is}
-use Rattle.wl_eval.proofs.Playing.{plays_bind, plays_done}
-use Rattle.wl_eval.proofs.Rows.{played_bind, played_stop}
+use Rattle.wl_semantics.specs.State.{World, State, End, Value, Thrown, Aborted, BudgetEnded, Broke, Continued}
+use Rattle.wl_semantics.specs.Prog.{Prog, done, ◌>>=◌, value_of, end_of, now, valued, sized, asking, draw, number}
+use Rattle.wl_semantics.specs.Eval.{Eval, Turns, interp, one_eval, turn_on, eval_on, final, opened}
+use Rattle.wl_state.specs.LocalNames.{IsShallow, AreShallow, locals_in, scope_parts, with_body_of}
+use Rattle.wl_semantics.specs.Match.{Scope, of_module, of_with, of_block, no_scope, with_locals, scope_named, is_scope, guard_within, guard_by, scope, is_condition, is_guarded, condition_result}
+use Rattle.wl_state.specs.Operands.{two_trees}
+use Rattle.wl_state.specs.Played.{Plays, Played, Seen, built, found_tree, honest_tree, state}
+use Rattle.wl_semantics.specs.Scoping as scoping
+use Rattle.wl_semantics.specs.Scoping.{names_of, values_of}
+use Rattle.wl_state.specs.Guards.{module_guard, with_guard, block_guard}
+use Rattle.wl_state.specs.declared.evaluator.Evaluator.{Evaluator}
+use Rattle.wl_state.specs.declared.ends.Stop.{Stop}
+use Rattle.wl_state.specs.declared.locals.Local.{Local}
+use Rattle.wl_semantics.proofs.Equations.{guard-end, guard-round}
+use Rattle.wl_semantics.proofs.Keeps.{Eval-adds}
+use Rattle.wl_semantics.proofs.Level.{Eval-is, Turns-is}
+use Rattle.wl_state.proofs.Playing.{plays_bind, plays_done}
+use Rattle.wl_state.proofs.Rows.{played_bind, played_stop}
 
 -- ---- a value without a step is a number or a text
 

@@ -1,12 +1,12 @@
 -- No evaluation changes the history.
 use Rattle.std.proofs.Common.{◌≡◌, ℕ, zero, suc, Bool, true, false, Result, Ok, Err, refl, ap, ◌∙◌}
 use Rattle.wl_expr.specs.Tree.{Tree, num, text, symbol, node}
-use Rattle.wl_eval.specs.State.{World, State, End, BudgetEnded, Turned, Final, Next}
-use Rattle.wl_eval.specs.Prog.{Prog, done, stop, look, eval, step, act, What, put_rule, remove_rule, clear, set_attributes, put_message, set_off, take_rules, give_rules, issue, show, draw, recall_value, recall_input, How, openly, quietly, checked}
-use Rattle.wl_eval.specs.Effects.{acted}
-use Rattle.wl_eval.specs.Turn.{turn}
-use Rattle.wl_eval.specs.Eval.{hushed, Evaluator, asked, took, over, interp, opened, after_turn, turn_on, eval_on, one_eval, turns_at, Turns, Eval, Go}
-use Rattle.wl_eval.proofs.Level.{Eval-is}
+use Rattle.wl_semantics.specs.State.{World, State, End, BudgetEnded, Turned, Final, Next}
+use Rattle.wl_semantics.specs.Prog.{Prog, done, stop, look, eval, step, act, What, put_rule, remove_rule, clear, set_attributes, put_message, set_off, take_rules, give_rules, issue, show, draw, recall_value, recall_input, How, openly, quietly, checked}
+use Rattle.wl_semantics.specs.Effects.{acted}
+use Rattle.wl_semantics.specs.Turn.{turn}
+use Rattle.wl_semantics.specs.Eval.{hushed, Evaluator, asked, took, over, interp, opened, after_turn, turn_on, eval_on, one_eval, turns_at, Turns, Eval, Go}
+use Rattle.wl_semantics.proofs.Level.{Eval-is}
 
 abbrev pub KeepsHistory : Evaluator → Type 0
 KeepsHistory ev = (t : Tree) (s : State) → (ev t s).state.world.history ≡ s.world.history

@@ -6,23 +6,23 @@ use Rattle.std.specs.List.{All}
 use Rattle.wl_desk.specs.Desk.{refilled}
 use Rattle.wl_expr.specs.Tree.{Tree}
 use Rattle.wl_rules.specs.Stored.{definitions}
-use Rattle.wl_eval.specs.State as spec
-use Rattle.wl_eval.specs.State.{State, End}
-use Rattle.wl_eval.specs.Prog.{Prog, end_of}
-use Rattle.wl_eval.specs.Eval.{Eval, Go, interp}
+use Rattle.wl_semantics.specs.State as spec
+use Rattle.wl_semantics.specs.State.{State, End}
+use Rattle.wl_semantics.specs.Prog.{Prog, end_of}
+use Rattle.wl_semantics.specs.Eval.{Eval, Go, interp}
 use Rattle.wl_eval.specs.KernelView.{IsIdle, IsSound, plain_lines, state_of, view_of}
-use Rattle.wl_eval.specs.Logs.{is_spoiled}
-use Rattle.wl_eval.specs.Outcome.{evaluated, outcome}
-use Rattle.wl_eval.specs.Played.{Plays, HonestEnd, GoodEnd, HonestLine, plain_line, state}
-use Rattle.wl_eval.specs.declared.ends.End as ends
-use Rattle.wl_eval.specs.declared.ends.End.TheVariants as end
-use Rattle.wl_eval.specs.declared.evaluator.Evaluator.{Evaluator}
-use Rattle.wl_eval.specs.declared.evaluator.Line.{Line}
-use Rattle.wl_eval.specs.declared.evaluator.Log.{Log}
+use Rattle.wl_state.specs.Logs.{is_spoiled}
+use Rattle.wl_semantics.specs.Outcome.{evaluated, outcome}
+use Rattle.wl_state.specs.Played.{Plays, HonestEnd, GoodEnd, HonestLine, plain_line, state}
+use Rattle.wl_state.specs.declared.ends.End as ends
+use Rattle.wl_state.specs.declared.ends.End.TheVariants as end
+use Rattle.wl_state.specs.declared.evaluator.Evaluator.{Evaluator}
+use Rattle.wl_state.specs.declared.evaluator.Line.{Line}
+use Rattle.wl_state.specs.declared.evaluator.Log.{Log}
 use Rattle.wl_eval.proofs.Beginning.{lines_sound, refilled_sound}
 use Rattle.wl_eval.proofs.History.{Go-history}
-use Rattle.wl_eval.proofs.Rows.{same_depth}
-use Rattle.wl_eval.proofs.Stores.{honest_grows}
+use Rattle.wl_state.proofs.Rows.{same_depth}
+use Rattle.wl_state.proofs.Stores.{honest_grows}
 
 -- ---- the state
 

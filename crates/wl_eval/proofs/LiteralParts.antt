@@ -13,15 +13,15 @@ use Rattle.wl_match.specs.Search.{Fail, Found}
 use Rattle.wl_match.specs.Trials.{Trials}
 use Rattle.wl_match.proofs.LentLemmas.{same_is}
 use Rattle.wl_match.proofs.LiteralLemmas.{one_leaf}
-use Rattle.wl_eval.specs.Match.{walk, filling, flags_of, rule_result}
-use Rattle.wl_eval.specs.Prog.{done, tick, ◌>>=◌}
-use Rattle.wl_eval.specs.Played.{Plays, Played, found_tree}
-use Rattle.wl_eval.specs.declared.evaluator.Evaluator.{Evaluator}
-use Rattle.wl_eval.specs.declared.ends.Stop.{Stop}
-use Rattle.wl_eval.proofs.Bindings.{drop_item, all_dropped}
-use Rattle.wl_eval.proofs.Playing.{plays_bind, plays_done}
-use Rattle.wl_eval.proofs.Rows.{played_bind}
-use Rattle.wl_eval.proofs.Tables.{both_true}
+use Rattle.wl_semantics.specs.Match.{walk, filling, flags_of, rule_result}
+use Rattle.wl_semantics.specs.Prog.{done, tick, ◌>>=◌}
+use Rattle.wl_state.specs.Played.{Plays, Played, found_tree}
+use Rattle.wl_state.specs.declared.evaluator.Evaluator.{Evaluator}
+use Rattle.wl_state.specs.declared.ends.Stop.{Stop}
+use Rattle.wl_state.proofs.Bindings.{drop_item, all_dropped}
+use Rattle.wl_state.proofs.Playing.{plays_bind, plays_done}
+use Rattle.wl_state.proofs.Rows.{played_bind}
+use Rattle.wl_state.proofs.Tables.{both_true}
 
 pub literals_at : (xs : List Stamped) (i : ℕ) (x : Stamped) → i < length xs → x ≡ get_or xs i x → literals (plains (from_list (drop i xs))) ≡ (literal (plain x) && literals (plains (from_list (drop (i + 1) xs))))
 literals_at xs i x l e = ap (λ ys. literals (plains (from_list ys))) (drop_item xs i x l e)

@@ -37,7 +37,7 @@ use Rattle.wl_lists.specs.Strings as strings
 use Rattle.wl_lists.specs.Kinds as lists
 use Rattle.wl_lists.specs.declared.kind.Kind as lists_kind
 use Rattle.wl_lists.specs.declared.kind.Kind.TheVariants as l
-use Rattle.wl_eval.proofs.Answering.{NoticeFits}
+use Rattle.wl_state.proofs.Answering.{NoticeFits}
 
 -- ---- choices
 

@@ -17,22 +17,22 @@ use Rattle.wl_shape.specs.Sizes.{IsNoLarger}
 use Rattle.wl_shape.specs.declared.arrangement.Shaped as code
 use Rattle.wl_shape.specs.declared.arrangement.Shaped.TheVariants as variant
 use Rattle.wl_shape.proofs.ShapeSize.{shape-size}
-use Rattle.wl_eval.specs.Prog.{message, sized}
-use Rattle.wl_eval.specs.Elements.{bared, is_bared}
-use Rattle.wl_eval.specs.State.{Next}
-use Rattle.wl_eval.specs.Turn.{shaped_turn, rules_turn}
-use Rattle.wl_eval.specs.Played as played
-use Rattle.wl_eval.specs.Played.{Plays, Played, Honest, AllHonest, TooLarge, FaultStops, trees, turned}
-use Rattle.wl_eval.specs.declared.evaluator.Evaluator.{Evaluator}
-use Rattle.wl_eval.specs.declared.ends.Stop.{Stop}
-use Rattle.wl_eval.specs.declared.ends.Turned as turneds
-use Rattle.wl_eval.proofs.BaredSize.{bared-size}
-use Rattle.wl_eval.proofs.Playing.{plays_bind, plays_done}
-use Rattle.wl_eval.proofs.Rows.{played_bind, played_stop}
-use Rattle.wl_eval.proofs.Values.{built_honest, passed_honest}
-use Rattle.wl_eval.proofs.Fitting.{plays_fits, sized_large}
-use Rattle.wl_eval.proofs.Answering.{beyond}
-use Rattle.wl_eval.proofs.Shapings.{not_bared}
+use Rattle.wl_semantics.specs.Prog.{message, sized}
+use Rattle.wl_semantics.specs.Elements.{bared, is_bared}
+use Rattle.wl_semantics.specs.State.{Next}
+use Rattle.wl_semantics.specs.Turn.{shaped_turn, rules_turn}
+use Rattle.wl_state.specs.Played as played
+use Rattle.wl_state.specs.Played.{Plays, Played, Honest, AllHonest, TooLarge, FaultStops, trees, turned}
+use Rattle.wl_state.specs.declared.evaluator.Evaluator.{Evaluator}
+use Rattle.wl_state.specs.declared.ends.Stop.{Stop}
+use Rattle.wl_state.specs.declared.ends.Turned as turneds
+use Rattle.wl_semantics.proofs.BaredSize.{bared-size}
+use Rattle.wl_state.proofs.Playing.{plays_bind, plays_done}
+use Rattle.wl_state.proofs.Rows.{played_bind, played_stop}
+use Rattle.wl_state.proofs.Values.{built_honest, passed_honest}
+use Rattle.wl_state.proofs.Fitting.{plays_fits, sized_large}
+use Rattle.wl_state.proofs.Answering.{beyond}
+use Rattle.wl_state.proofs.Shapings.{not_bared}
 
 -- ---- stamps
 

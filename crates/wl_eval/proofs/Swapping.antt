@@ -7,20 +7,20 @@ use Rattle.wl_desk.specs.MessageText.{filled_text}
 use Rattle.wl_expr.specs.Tree.{Tree}
 use Rattle.wl_expr.specs.Words.{Name, Bytes}
 use Rattle.wl_rules.specs.Entries.{Definitions, Entry, PlainRule, Rules, value_at, with_entry, with_rules}
-use Rattle.wl_eval.specs.State.{State}
-use Rattle.wl_eval.specs.Prog.{Prog, What, doing, done, ◌>>=◌, issue, give_rules, message}
-use Rattle.wl_eval.specs.Effects.{acted}
-use Rattle.wl_eval.specs.Eval.{interp}
-use Rattle.wl_eval.specs.Control.{give_back_taken}
-use Rattle.wl_eval.specs.Logs.{is_spoiled}
-use Rattle.wl_eval.specs.Scoping.{Taken}
-use Rattle.wl_eval.specs.Played.{Plays, Sound, state}
-use Rattle.wl_eval.specs.declared.evaluator.Log.{Log}
-use Rattle.wl_eval.specs.declared.evaluator.Evaluator.{Evaluator}
-use Rattle.wl_eval.proofs.Moves.{plays_doing}
-use Rattle.wl_eval.proofs.Playing.{plays_bind, plays_done}
-use Rattle.wl_eval.proofs.Rows.{same_depth}
-use Rattle.wl_eval.proofs.Stores.{grows_refl, grows_trans}
+use Rattle.wl_semantics.specs.State.{State}
+use Rattle.wl_semantics.specs.Prog.{Prog, What, doing, done, ◌>>=◌, issue, give_rules, message}
+use Rattle.wl_semantics.specs.Effects.{acted}
+use Rattle.wl_semantics.specs.Eval.{interp}
+use Rattle.wl_semantics.specs.Control.{give_back_taken}
+use Rattle.wl_state.specs.Logs.{is_spoiled}
+use Rattle.wl_semantics.specs.Scoping.{Taken}
+use Rattle.wl_state.specs.Played.{Plays, Sound, state}
+use Rattle.wl_state.specs.declared.evaluator.Log.{Log}
+use Rattle.wl_state.specs.declared.evaluator.Evaluator.{Evaluator}
+use Rattle.wl_state.proofs.Moves.{plays_doing}
+use Rattle.wl_state.proofs.Playing.{plays_bind, plays_done}
+use Rattle.wl_state.proofs.Rows.{same_depth}
+use Rattle.wl_state.proofs.Stores.{grows_refl, grows_trans}
 
 -- what isn't a rule of an entry is as it was
 kept_part : {X : Type 0} (part : Entry PlainRule → X) (d : Definitions) (x y : Name) (r : Rules PlainRule) → ((e : Entry PlainRule) → part (with_rules r e) ≡ part e) → part (with_entry x (with_rules r (d x)) d y) ≡ part (d y)

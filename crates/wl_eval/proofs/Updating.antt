@@ -8,19 +8,19 @@ use Rattle.wl_expr.specs.Tree.{Tree, symbol, none}
 use Rattle.wl_expr.specs.Words.{Name, fits, form}
 use Rattle.wl_expr.specs.declared.fault.ExprFault.{ExprFault}
 use Rattle.wl_expr.specs.declared.fault.ExprFault.TheVariants as fault
-use Rattle.wl_eval.specs.Prog.{Prog, ◌>>=◌, value_of, value_of_built, unchanged, result}
-use Rattle.wl_eval.specs.Definitions.{changing}
-use Rattle.wl_eval.specs.Parts.{sized_row}
-use Rattle.wl_eval.specs.Played as played
-use Rattle.wl_eval.specs.Played.{Honest, Makes, Played, Plays, Good, found_tree}
-use Rattle.wl_eval.specs.Prepared.{kept}
-use Rattle.wl_eval.specs.declared.evaluator.Evaluator.{Evaluator}
-use Rattle.wl_eval.specs.declared.ends.Stop.{Stop}
-use Rattle.wl_eval.proofs.Playing.{plays_bind, plays_done}
-use Rattle.wl_eval.proofs.Preparing.{unfit_second}
-use Rattle.wl_eval.proofs.RowParts.{row_none, row_gives}
-use Rattle.wl_eval.proofs.Matches.{exit}
-use Rattle.wl_eval.proofs.Rows.{played_bind, played_stop}
+use Rattle.wl_semantics.specs.Prog.{Prog, ◌>>=◌, value_of, value_of_built, unchanged, result}
+use Rattle.wl_semantics.specs.Definitions.{changing}
+use Rattle.wl_state.specs.Parts.{sized_row}
+use Rattle.wl_state.specs.Played as played
+use Rattle.wl_state.specs.Played.{Honest, Makes, Played, Plays, Good, found_tree}
+use Rattle.wl_state.specs.Prepared.{kept}
+use Rattle.wl_state.specs.declared.evaluator.Evaluator.{Evaluator}
+use Rattle.wl_state.specs.declared.ends.Stop.{Stop}
+use Rattle.wl_state.proofs.Playing.{plays_bind, plays_done}
+use Rattle.wl_state.proofs.Preparing.{unfit_second}
+use Rattle.wl_state.proofs.RowParts.{row_none, row_gives}
+use Rattle.wl_state.proofs.Matches.{exit}
+use Rattle.wl_state.proofs.Rows.{played_bind, played_stop}
 
 -- a fault of the second element is one of the whole
 pub made_whole : (x : Name) (s t : Tree) (f : ExprFault) → Makes t (Err f) → Makes (form x (s ∷ t ∷ [])) (Err f)

@@ -4,20 +4,21 @@ use Rattle.std.specs.Coded.{Coded, code_by, coded×, coded_list, coded_ℕ, code
 use Rattle.std.specs.List.{All}
 use Rattle.wl_desk.specs.Desk.{Desk, refilled}
 use Rattle.wl_desk.specs.DeskCode.{desk_code}
-use Rattle.wl_eval.specs.Honest.{HonestIn, HonestOption, HonestStore}
-use Rattle.wl_eval.specs.Played.{HonestLine, Sound, plain_line}
+use Rattle.wl_state.specs.Honest.{HonestIn, HonestOption, HonestStore}
+use Rattle.wl_state.specs.Outcomes.{HonestOutcomeIn}
+use Rattle.wl_state.specs.Played.{HonestLine, Sound, plain_line}
 use Rattle.wl_expr.specs.Stamped.{Stamped, from_list, node, plain, stamped_code, symbol}
 use Rattle.wl_expr.specs.Tree.{Tree}
 use Rattle.wl_expr.specs.Words.{Name}
 use Rattle.wl_rules.specs.Stored.{Stored, definitions}
 use Rattle.wl_rules.specs.StoredCodes.{stored_code}
-use Rattle.wl_eval.specs.Outcome.{thrown}
-use Rattle.wl_eval.specs.State as spec
-use Rattle.wl_eval.specs.State.{State, End}
-use Rattle.wl_eval.specs.declared.evaluator.Evaluator.{Evaluator}
-use Rattle.wl_eval.specs.declared.evaluator.Line.{Line}
-use Rattle.wl_eval.specs.declared.outcome.Outcome.{Outcome}
-use Rattle.wl_eval.specs.declared.outcome.Outcome.TheVariants.{Value, Thrown, Aborted, BudgetEnded}
+use Rattle.wl_semantics.specs.Outcome.{thrown}
+use Rattle.wl_semantics.specs.State as spec
+use Rattle.wl_semantics.specs.State.{State, End}
+use Rattle.wl_state.specs.declared.evaluator.Evaluator.{Evaluator}
+use Rattle.wl_state.specs.declared.evaluator.Line.{Line}
+use Rattle.wl_state.specs.declared.outcome.Outcome.{Outcome}
+use Rattle.wl_state.specs.declared.outcome.Outcome.TheVariants.{Value, Thrown, Aborted, BudgetEnded}
 
 pub record KernelView : Type 0 where
   pub store : Stored
@@ -51,27 +52,6 @@ state_of v = record {
   depth = 0;
 }
 
--- how an evaluation that was asked for ended
-abbrev pub end_of : Outcome → End
-end_of (Value v) = spec.Value (plain v)
-end_of (Thrown v t) = spec.Thrown (plain v) (option_map plain t)
-end_of Aborted = spec.Aborted
-end_of BudgetEnded = spec.BudgetEnded
-
--- a Throw of this value, with its tag where it has one
-abbrev pub thrown_tree : Stamped → Option Stamped → Tree
-thrown_tree v t = thrown (plain v) (option_map plain t)
-
--- what is built of them, without stamps of its own
-abbrev pub throw_node : Stamped → Option Stamped → Stamped
-throw_node v t = node None (symbol None (codes "Throw")) (from_list (v ∷ option_to_list t))
-
-abbrev pub call_node : Name → Stamped
-call_node x = node None (symbol None x) (from_list [])
-
-abbrev pub held_node : Stamped → Stamped
-held_node e = node None (symbol None (codes "Hold")) (from_list (e ∷ []))
-
 -- ---- what is honest
 
 abbrev pub Honest : KernelView → Stamped → Type 0
@@ -79,12 +59,6 @@ Honest v e = HonestIn v.store e
 
 abbrev pub HonestMaybe : KernelView → Option Stamped → Type 0
 HonestMaybe v o = HonestOption v.store o
-
-abbrev pub HonestOutcomeIn : Stored → Outcome → Type 0
-HonestOutcomeIn a (Value e) = HonestIn a e
-HonestOutcomeIn a (Thrown e t) = HonestIn a e × HonestOption a t
-HonestOutcomeIn a Aborted = ⊤
-HonestOutcomeIn a BudgetEnded = ⊤
 
 abbrev pub HonestOutcome : KernelView → Outcome → Type 0
 HonestOutcome v o = HonestOutcomeIn v.store o

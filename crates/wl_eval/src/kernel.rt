@@ -1,19 +1,21 @@
 //! The kernel: definitions, history and messages, and evaluations over them.
 ghost use Rattle.std.specs.Prelude.{◌≡◌, false, true, Ok, IfOk, OnOk, OnErr, IsErr, option_map, option_copied};
 ghost use Rattle.wl_expr.specs.Stamped.{plain};
-ghost use Rattle.wl_eval.specs.Eval.{Go};
-ghost use Rattle.wl_eval.specs.KernelView.{Honest, HonestMaybe, HonestOutcome, IsSound, end_of, state_of, refilled_view, with_line_view};
-ghost use Rattle.wl_eval.specs.Marks.{at_last_mark};
-ghost use Rattle.wl_eval.specs.Outcome.{evaluated, uncaught, new_state, refilled_state, with_line};
+ghost use Rattle.wl_semantics.specs.Eval.{Go};
+ghost use Rattle.wl_eval.specs.KernelView.{Honest, HonestMaybe, HonestOutcome, IsSound, state_of, refilled_view, with_line_view};
+ghost use Rattle.wl_state.specs.Outcomes.{end_of};
+ghost use Rattle.wl_state.specs.Marks.{at_last_mark};
+ghost use Rattle.wl_semantics.specs.Outcome.{evaluated, uncaught, new_state, refilled_state, with_line};
 
-use crate::evaluator::{Evaluator, Line};
-use crate::outcome::{Outcome, outcome_of};
+use crate::evaluation::evaluate;
 use std::alloc::Global;
 use std::marker::Model;
 use wl_desk::{Desk, Item};
 use wl_expr::Expr;
 use wl_ports::{Ledger, Memory, NoLedger, Work};
 use wl_rules::Store;
+use wl_state::evaluator::{Evaluator, Line};
+use wl_state::outcome::{Outcome, outcome_of};
 
 /// What evaluations have in common: the definitions, the history, what the present cell shows, and the steps that are left.
 ///
@@ -92,7 +94,7 @@ impl Kernel {
         }
         // Until the outcome is whole.
         self.dead = true;
-        let Ok(end) = self.evaluator.evaluate(e, work) else {
+        let Ok(end) = evaluate(&mut self.evaluator, e, work) else {
             return Err(Memory);
         };
         let outcome = outcome_of(self.evaluator.alloc, end)?;

@@ -1,51 +1,27 @@
-//! The definition of evaluation, and its laws.
+//! Evaluation: the recursion of turns, and the kernel over it.
 #![tactic(auto)]
 
 mod applying;
 mod built_in;
 mod control_rows;
-mod defining;
-mod effects;
 mod elements;
 mod end_rows;
-mod ends;
-mod entry_rows;
 mod evaluation;
-mod evaluator;
-mod function;
 mod guard;
-mod history_rows;
-mod iterator;
 mod kernel;
-mod kind;
-pub mod laws;
 mod left_sides;
-mod levels;
-mod literal;
-mod locals;
-mod looks;
 mod match_rows;
 mod matching;
-mod messages;
-mod operands;
-mod outcome;
 mod quiet_rows;
-mod recall;
-mod refusals;
 mod replace_rows;
-mod replies;
-mod rules_in;
-mod runs;
 mod scope_rows;
-mod scoping;
 mod set_rows;
-mod shaping;
 mod tag_rows;
 mod trial;
 mod turn;
 mod update_rows;
 
-pub use evaluator::Line;
 pub use kernel::Kernel;
-pub use outcome::Outcome;
 pub use wl_desk::Item;
+pub use wl_state::evaluator::Line;
+pub use wl_state::outcome::Outcome;

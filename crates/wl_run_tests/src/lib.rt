@@ -20,6 +20,8 @@ mod notebooks;
 #[cfg(test)]
 mod refusals;
 #[cfg(test)]
+mod rows;
+#[cfg(test)]
 mod running;
 #[cfg(test)]
 mod scoping;

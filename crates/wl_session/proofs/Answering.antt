@@ -4,8 +4,8 @@ use Rattle.std.specs.Io.KnownBytes.{Appends}
 use Rattle.std.proofs.lemmas.List.{map-append}
 use Rattle.std.proofs.KnownBytes.{Appends-trans, Appends-nil}
 use Rattle.wl_session.specs.Answers.{IsAnswer, answer_to, state_after, answers}
-use Rattle.wl_eval.proofs.Ticking.{marked}
-use Rattle.wl_eval.specs.Marks.{at_last_mark}
+use Rattle.wl_state.proofs.Ticking.{marked}
+use Rattle.wl_state.specs.Marks.{at_last_mark}
 use Rattle.wl_session.specs.Counting.{HasBegun}
 use Rattle.wl_session.specs.Line.{SessionState}
 use Rattle.wl_session.specs.Reading.{Reading, IsReading, AllRead}

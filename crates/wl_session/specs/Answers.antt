@@ -1,6 +1,6 @@
 -- What a session answers to its cells.
 use Rattle.std.specs.Prelude.{◌≡◌, true, false, List, [], ◌∷◌, ◌++◌, None}
-use Rattle.wl_eval.specs.Outcome.{new_state}
+use Rattle.wl_semantics.specs.Outcome.{new_state}
 use Rattle.wl_expr.specs.Words.{Bytes}
 use Rattle.wl_scan.specs.Cells.{CellText}
 use Rattle.wl_session.specs.Fault.{fault_line}

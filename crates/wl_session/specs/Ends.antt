@@ -3,7 +3,7 @@ use Rattle.std.specs.Prelude.{◌≡◌, ◌≢◌, ◌≤◌, ◌<◌, ◌+◌,
 use Rattle.std.specs.Io.KnownBytes.{Appends, Consumes, IsAtEnd}
 use Rattle.wl_ports.specs.Causes.{Rose, next_count}
 use Rattle.wl_eval.specs.KernelView.{plain_lines}
-use Rattle.wl_eval.specs.State.{Line}
+use Rattle.wl_semantics.specs.State.{Line}
 use Rattle.wl_expr.specs.Words.{Name}
 use Rattle.wl_rules.specs.Entries.{Definitions}
 use Rattle.wl_rules.specs.Stored.{definitions}

@@ -1,8 +1,8 @@
 -- What a cell that was read does to a session, and the bytes that it gives. The ends of cells are this project's own.
 use Rattle.std.specs.Prelude.{ℕ, ◌+◌, ◌-◌, ◌^◌, min, Bool, true, false, ◌&&◌, ◌||◌, nat_lt, if◌then◌else◌, List, [], ◌∷◌, ◌++◌, length, take, slice_index_or, Option, Some, None, Result, Ok, Err, codes, decimal}
-use Rattle.wl_eval.specs.Eval.{Go}
-use Rattle.wl_eval.specs.Outcome.{evaluated, uncaught, refilled_state, with_line}
-use Rattle.wl_eval.specs.State.{State, End, Value, Thrown, Aborted, BudgetEnded, Broke, Continued}
+use Rattle.wl_semantics.specs.Eval.{Go}
+use Rattle.wl_semantics.specs.Outcome.{evaluated, uncaught, refilled_state, with_line}
+use Rattle.wl_semantics.specs.State.{State, End, Value, Thrown, Aborted, BudgetEnded, Broke, Continued}
 use Rattle.wl_expr.specs.Tree.{Tree, node, none, more, to_list}
 use Rattle.wl_expr.specs.Words.{Bytes, form, is_the, null_symbol, aborted_symbol}
 use Rattle.wl_form.specs.Texts.{input_text, full_text}

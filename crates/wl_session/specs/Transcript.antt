@@ -1,6 +1,6 @@
 -- What a run writes and leaves, whatever the pieces that its source gives.
 use Rattle.std.specs.Prelude.{ℕ, List, [], ◌∷◌, ◌++◌, ◌==◌, length, map, take, nat_le, codes, Some, None, if◌then◌else◌}
-use Rattle.wl_eval.specs.State.{Line}
+use Rattle.wl_semantics.specs.State.{Line}
 use Rattle.wl_rules.specs.Entries.{Definitions, empty_entry}
 use Rattle.wl_scan.specs.Cells.{CellText, PlacedCell, start, cells, ended}
 use Rattle.wl_session.specs.Answers.{no_counts, fresh, state_after, answers}

@@ -1,6 +1,6 @@
 -- Cells from a new session, and the bytes that are written for them. The bytes are those of an independent writing of the language; tools/eval_oracle/worked_lines.py writes this file.
 use Rattle.std.specs.Prelude.{◌≡◌, [], ◌∷◌, Some, None, codes, pos, negsuc}
-use Rattle.wl_eval.specs.Cells.{call, name, string}
+use Rattle.wl_laws.specs.Cells.{call, name, string}
 use Rattle.wl_expr.specs.Tree.{num}
 use Rattle.wl_expr.specs.Words.{natural, whole}
 use Rattle.wl_scan.specs.declared.token.ScanKind.TheVariants.{Real, LongNumber, BadChar, BadEscape, OpenString, OpenComment, Base, Digit}

@@ -1,7 +1,8 @@
 //! How the evaluation of a cell ends.
 ghost use Rattle.std.specs.Prelude.{◌≡◌, true, false, IfOk, OnOk, OnErr};
-ghost use Rattle.wl_eval.specs.KernelView.{Honest, HonestOutcome, end_of, state_of};
-ghost use Rattle.wl_eval.specs.Marks.{at_last_mark};
+ghost use Rattle.wl_eval.specs.KernelView.{Honest, HonestOutcome, state_of};
+ghost use Rattle.wl_state.specs.Outcomes.{end_of};
+ghost use Rattle.wl_state.specs.Marks.{at_last_mark};
 ghost use Rattle.wl_expr.specs.Stamped.{plain};
 ghost use Rattle.wl_expr.specs.Words.{aborted_symbol};
 ghost use Rattle.wl_session.specs.CellReading.{IsBare};

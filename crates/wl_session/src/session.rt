@@ -1,7 +1,7 @@
 //! A session: a kernel, and what it answers to a cell.
 ghost use Rattle.std.specs.Prelude.{◌≡◌, ◌⊎◌, true, false, IfOk, IsErr, OnOk, OnErr, string_bytes};
 ghost use Rattle.wl_eval.specs.KernelView.{IsSound};
-ghost use Rattle.wl_eval.specs.Marks.{at_last_mark};
+ghost use Rattle.wl_state.specs.Marks.{at_last_mark};
 ghost use Rattle.wl_expr.specs.Stamped.{plain};
 ghost use Rattle.wl_scan.specs.CellText.{cell_text};
 ghost use Rattle.wl_scan.specs.Cells.{IsWithinCell};

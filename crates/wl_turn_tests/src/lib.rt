@@ -1,10 +1,8 @@
-//! Tests of what a turn of an evaluation uses: left sides, stamps and messages.
+//! Tests of what a turn of an evaluation uses: left sides and stamps.
 #![tactic(auto)]
 
 #[cfg(test)]
 mod assign;
-#[cfg(test)]
-mod desk;
 #[cfg(test)]
 mod stamps;
 #[cfg(test)]

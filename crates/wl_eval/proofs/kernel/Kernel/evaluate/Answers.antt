@@ -1,7 +1,7 @@
 use Rattle.std.proofs.Common.{false, ap, ◌∙◌}
 use Rattle.wl_expr.specs.Stamped.{plain}
 use Rattle.wl_eval.specs.KernelView.{KernelView, state_of}
-use Rattle.wl_eval.specs.Outcome.{evaluated}
+use Rattle.wl_semantics.specs.Outcome.{evaluated}
 use Rattle.wl_eval.proofs.Kernels.{evaluated_ends, evaluated_leaves, good_honest, idle_after, idle_sound}
 use Rattle.wl_eval.proofs.kernel.Kernel.evaluate.Goals as goal
 
@@ -21,8 +21,8 @@ returns-clause-state g c =
 
 pub returns-clause-honest : goal.returns-clause-honest
 returns-clause-honest g c =
-    c.in_ok-outcome.ensures.honest c.evaluate.new.self (good_honest c.evaluate.new.self.depth c.evaluate.new.self c.in-Ok.end c.in-Ok.ensures.played.1)
+    c.in_ok-outcome.ensures.honest c.evaluate.new.evaluator (good_honest c.evaluate.new.evaluator.depth c.evaluate.new.evaluator c.in-Ok.end c.in-Ok.ensures.played.1)
 
 pub returns-clause-sound : goal.returns-clause-sound
 returns-clause-sound g c =
-    idle_sound c.evaluate.new.self c.self.inside.history.items false (idle_after c.in-Ok.ensures.played.0 c.self.inside.history.items (c.self.invariant c.if-self.false))
+    idle_sound c.evaluate.new.evaluator c.self.inside.history.items false (idle_after c.in-Ok.ensures.played.0 c.self.inside.history.items (c.self.invariant c.if-self.false))

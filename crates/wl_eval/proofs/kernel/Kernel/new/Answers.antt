@@ -2,7 +2,7 @@ use Rattle.std.proofs.Common.{None, refl, sym, ap, ◌∙◌, subst}
 use Rattle.std.proofs.lemmas.List.Elements.{All-nil}
 use Rattle.std.specs.List.{All}
 use Rattle.wl_eval.specs.KernelView.{plain_lines}
-use Rattle.wl_eval.specs.Played.{HonestLine}
+use Rattle.wl_state.specs.Played.{HonestLine}
 use Rattle.wl_eval.proofs.Beginning.{new_sound}
 use Rattle.wl_eval.proofs.kernel.Kernel.new.Goals as goal
 

@@ -1,8 +1,8 @@
 use Rattle.std.proofs.Common.{false, ap, ◌∙◌, option_copied, option_map}
 use Rattle.wl_expr.specs.Stamped.{plain}
-use Rattle.wl_eval.specs.Eval.{Go}
+use Rattle.wl_semantics.specs.Eval.{Go}
 use Rattle.wl_eval.specs.KernelView.{KernelView, state_of}
-use Rattle.wl_eval.specs.Outcome.{uncaught}
+use Rattle.wl_semantics.specs.Outcome.{uncaught}
 use Rattle.wl_eval.proofs.Kernels.{idle_after, idle_leaves, idle_sound}
 use Rattle.wl_eval.proofs.kernel.Kernel.uncaught.Goals as goal
 

@@ -1,0 +1,5 @@
+mod Cells
+mod Forms
+mod Printable
+mod Short
+mod Worked

@@ -1,0 +1,3 @@
+pub mod Notebook
+pub mod Summary
+pub mod Laws

@@ -1,7 +1,0 @@
-use Rattle.wl_eval.specs.Played.{trees}
-use Rattle.wl_eval.proofs.RowParts.{row_at}
-use Rattle.wl_eval.proofs.HistoryRowParts.{on_row-by}
-use Rattle.wl_eval.proofs.evaluator.Evaluator.on_row.Goals as goal
-
-pub returns-clause-played : goal.returns-clause-played
-returns-clause-played c = row_at _ _ _ _ _ (on_row-by (trees c.args.args.now)) c.switch.ensures.played

@@ -1,8 +1,0 @@
-use Rattle.wl_eval.proofs.Moves.{plays_tick, plays_no_tick}
-use Rattle.wl_eval.proofs.evaluator.Evaluator.take_step.Goals as goal
-
-pub returns-then-self-eq0-clause-played : goal.returns-then-self-eq0-clause-played
-returns-then-self-eq0-clause-played c = (plays_no_tick c.args.self.now c.if-self-eq0.true, tt)
-
-pub returns-clause-played : goal.returns-clause-played
-returns-clause-played c = (plays_tick c.args.self.now c.if-self-eq0.false, tt)

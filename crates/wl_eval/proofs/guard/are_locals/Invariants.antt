@@ -1,8 +1,0 @@
-use Rattle.std.proofs.Common.{◌≡◌, is_some, drop}
-use Rattle.wl_shape.specs.Scopes.{locals_of}
-use Rattle.wl_eval.specs.Played.{trees}
-use Rattle.wl_eval.specs.Searching.{needs_values}
-use Rattle.wl_eval.proofs.guard.are_locals.Given as goal
-
-abbrev pub invariant-loop-i : goal.invariant-loop-i
-invariant-loop-i l = is_some (locals_of (needs_values l.need_values) (trees l.args)) ≡ is_some (locals_of (needs_values l.need_values) (trees (drop l.i l.args)))

@@ -1,8 +1,0 @@
-use Rattle.wl_eval.proofs.Level.{Eval-is, Turns-is}
-use Rattle.wl_eval.proofs.laws.turns.Goals as goal
-
-pub returns-clause-evaluation : goal.returns-clause-evaluation
-returns-clause-evaluation c = Eval-is
-
-pub returns-clause-more : goal.returns-clause-more
-returns-clause-more c = Turns-is

@@ -1,6 +1,0 @@
-use Rattle.std.proofs.Common.{codes, refl}
-use Rattle.wl_ports.proofs.AsciiNames.{ascii_is_name}
-use Rattle.wl_eval.proofs.outcome.thrown.Goals as goal
-
-pub symbol-requires : goal.symbol-requires
-symbol-requires c = ascii_is_name (codes "Throw") refl

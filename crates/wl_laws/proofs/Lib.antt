@@ -1,0 +1,3 @@
+-- For this crate's own proofs.
+mod Agreement
+mod Computed

@@ -1,0 +1,5 @@
+-- What is true of every evaluation.
+pub mod Laws
+-- Sessions that are computed.
+pub mod Cells
+pub mod WorkedCells

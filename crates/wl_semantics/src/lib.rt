@@ -1,0 +1,2 @@
+//! The definition of evaluation, over plain trees.
+#![tactic(auto)]

@@ -1,0 +1,42 @@
+//! What a kernel has, and what its rows do without evaluating.
+#![tactic(auto)]
+
+pub mod applying;
+pub mod built_in;
+pub mod control_rows;
+pub mod defining;
+pub mod effects;
+pub mod elements;
+pub mod end_rows;
+pub mod ends;
+pub mod entry_rows;
+pub mod evaluation;
+pub mod evaluator;
+pub mod function;
+pub mod guard;
+pub mod history_rows;
+pub mod iterator;
+pub mod kind;
+pub mod left_sides;
+pub mod levels;
+pub mod literal;
+pub mod locals;
+pub mod looks;
+pub mod match_rows;
+pub mod matching;
+pub mod messages;
+pub mod operands;
+pub mod outcome;
+pub mod quiet_rows;
+pub mod recall;
+pub mod refusals;
+pub mod replace_rows;
+pub mod replies;
+pub mod rules_in;
+pub mod runs;
+pub mod scope_rows;
+pub mod scoping;
+pub mod set_rows;
+pub mod shaping;
+pub mod turn;
+pub mod update_rows;

@@ -1,0 +1,6 @@
+mod Numerals
+mod Matches
+mod Told
+mod Lines
+mod PlainWord
+mod OneOption

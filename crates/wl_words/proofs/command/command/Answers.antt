@@ -1,0 +1,12 @@
+use Rattle.std.proofs.Common.{◌∙◌, ap₂}
+use Rattle.clap.specs.Words.{with_rule}
+use Rattle.wl_words.proofs.command.command.Goals as goal
+
+pub returns : goal.returns
+returns c =
+    c.in_ok-command.ensures.shape c.new.ensures.optional.1
+    ∙ ap₂ with_rule (c.in_ok-arg-4.ensures.shape c.option-4.ensures.local
+    ∙ ap₂ with_rule (c.in_ok-arg-3.ensures.shape c.option-3.ensures.local
+    ∙ ap₂ with_rule (c.in_ok-arg-2.ensures.shape c.option-2.ensures.local
+    ∙ ap₂ with_rule (c.in_ok-arg.ensures.shape c.option.ensures.local
+    ∙ ap₂ with_rule c.bare.ensures c.option.ensures.rule) c.option-2.ensures.rule) c.option-3.ensures.rule) c.option-4.ensures.rule) c.new.ensures.rule
